@@ -1,0 +1,3 @@
+// The types that cross the layers of Yewspanner, and in specs/ what everything means.
+pub mod loads;
+pub mod refusals;

@@ -1,0 +1,4 @@
+pub mod Sums
+pub mod Rows
+pub mod Nearest
+pub mod BusyPeriod

@@ -1,0 +1,5 @@
+use Rattle.theory.proofs.forward_is_the_least_lawful.Needs as need
+use Rattle.theory.proofs.Largest.{forward-is-the-least-lawful}
+
+pub returns : need.returns
+returns c = forward-is-the-least-lawful

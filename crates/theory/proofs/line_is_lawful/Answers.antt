@@ -1,0 +1,5 @@
+use Rattle.theory.proofs.line_is_lawful.Needs as need
+use Rattle.theory.proofs.Line.{line-is-lawful}
+
+pub returns : need.returns
+returns c = line-is-lawful

@@ -1,0 +1,5 @@
+use Rattle.theory.proofs.overload_is_unboundedness.Needs as need
+use Rattle.theory.proofs.Largest.{overload-is-unboundedness}
+
+pub returns : need.returns
+returns c = overload-is-unboundedness

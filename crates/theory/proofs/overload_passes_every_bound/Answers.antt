@@ -1,0 +1,5 @@
+use Rattle.theory.proofs.overload_passes_every_bound.Needs as need
+use Rattle.theory.proofs.Largest.{overload-passes-every-bound}
+
+pub returns : need.returns
+returns c = overload-passes-every-bound
