@@ -1,5 +1,14 @@
+pub mod Lists
 pub mod Refusals
 pub mod Loads
 pub mod Windows
 pub mod Methods
+pub mod Network
+pub mod Entries
+pub mod Text
+pub mod Figures
+pub mod Traffic
+pub mod WorkingOut
+pub mod Calls
+pub mod Sample
 pub mod Promises

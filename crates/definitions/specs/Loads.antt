@@ -1,6 +1,5 @@
 -- Loads: what one virtual link brings to an output port. All times are whole nanoseconds.
 --
---   In x xs           x stands in the list xs
 --   IsGap g           g is one of the eight gaps (BAG): 1, 2, 4, 8, 16, 32, 64 or 128 ms
 --   InRange l         the occupancy and the jitter of the row l lie in their ranges
 --   IsLoad l          the row l keeps the rules of a load
@@ -13,13 +12,11 @@ use mathlib.Core.List.{List, [], _∷_}
 use mathlib.Core.Logic.{_⊎_}
 use Rattle.std.specs.declared.result.Result.{Result}
 use Rattle.std.specs.declared.result.Result.the-variants.{Ok, Err}
+use Rattle.std.specs.shelf.Lists.{All}
+use Rattle.definitions.specs.Lists.{In}
 use Rattle.definitions.specs.declared.loads.Load.{Load}
 use Rattle.definitions.specs.declared.refusals.Refusal.{Refusal}
 use Rattle.definitions.specs.declared.refusals.Refusal.the-variants.{GapUnknown, OutOfRange}
-
-abbrev pub In : {X : Type 0} → X → List X → Type 0
-In x [] = ⊥
-In x (y ∷ ys) = (x ≡ y) ⊎ In x ys
 
 abbrev pub gaps : List ℕ
 gaps = 1000000 ∷ 2000000 ∷ 4000000 ∷ 8000000 ∷ 16000000 ∷ 32000000 ∷ 64000000 ∷ 128000000 ∷ []
@@ -38,8 +35,7 @@ pub record IsLoad (l : Load) : Type 0 where
   pub in-range : InRange l
 
 abbrev pub AreLoads : List Load → Type 0
-AreLoads [] = Unit {0}
-AreLoads (l ∷ ls) = IsLoad l × AreLoads ls
+AreLoads ls = All IsLoad ls
 
 -- the gap is tried first
 abbrev pub Making : Load → Result Load Refusal → Type 0

@@ -11,7 +11,8 @@
 
 use Prim.Native.Nat.{ℕ, zero, suc, _+_, _-_, _*_, _/_, _≤_, max}
 use mathlib.Core.Path.{_≡_}
-use mathlib.Core.List.{List, [], _∷_}
+use mathlib.Core.List.{List}
+use Rattle.definitions.specs.Lists.{total}
 use Rattle.std.specs.declared.option.Option.{Option}
 use Rattle.std.specs.declared.option.Option.the-variants.{Some, None}
 use Rattle.definitions.specs.declared.loads.Load.{Load}
@@ -47,5 +48,4 @@ abbrev pub share : Load → ℕ
 share l = l .occupancy + (l .occupancy * l .jitter + (l .gap - 1)) / l .gap
 
 abbrev pub line : List Load → ℕ
-line [] = 0
-line (l ∷ ls) = share l + line ls
+line ls = total share ls

@@ -11,7 +11,8 @@
 
 use Prim.Native.Nat.{ℕ, _+_, _*_, _/_, _≤_, _<_}
 use mathlib.Core.Path.{_≡_}
-use mathlib.Core.List.{List, [], _∷_}
+use mathlib.Core.List.{List}
+use Rattle.definitions.specs.Lists.{total}
 use Rattle.definitions.specs.declared.loads.Load.{Load}
 
 -- shut, so that nothing counts up to it
@@ -22,12 +23,10 @@ abbrev pub window : Load → ℕ → ℕ
 window l t = (1 + (t + l .jitter) / l .gap) * l .occupancy
 
 abbrev pub W : List Load → ℕ → ℕ
-W [] t = 0
-W (l ∷ ls) t = window l t + W ls t
+W ls t = total (λ (l : Load). window l t) ls
 
 abbrev pub demand : List Load → ℕ
-demand [] = 0
-demand (l ∷ ls) = l .occupancy * (horizon / l .gap) + demand ls
+demand ls = total (λ (l : Load). l .occupancy * (horizon / l .gap)) ls
 
 abbrev pub Overloaded : List Load → Type 0
 Overloaded ls = horizon < demand ls

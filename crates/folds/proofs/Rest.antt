@@ -7,7 +7,8 @@ use native.Mathlib.Omega.{arith}
 use native.Mathlib.Decide.{decLe}
 use lib.ListN.{length, getD, drop}
 use Rattle.std.proofs.shelf.Lists.{drop-more, drop-all}
-use Rattle.folds.specs.Folds.{total, largest, In, IsLargest}
+use Rattle.definitions.specs.Lists.{In, total, largest}
+use Rattle.folds.specs.Folds.{IsLargest}
 
 rest-more : {X : Type 0} (xs : List X) (i : ℕ) (x : X) → i < length xs → x ≡ getD xs i x → drop i xs ≡ x ∷ drop (i + 1) xs
 rest-more xs i x lt e = drop-more xs i x lt ∙ ap (λ y. y ∷ drop (i + 1) xs) (sym e)
@@ -44,14 +45,3 @@ largest-reached f (y ∷ ys) = inr (elim (decLe (largest f ys) (f y)) [
 -- the recursion finds the largest
 pub largest-is-largest : {X : Type 0} (f : X → ℕ) (xs : List X) → IsLargest f xs (largest f xs)
 largest-is-largest f xs = record { bounds = largest-bounds f xs; reached = largest-reached f xs }
-
--- a sum that is written as a recursion of its own is the total
-pub total-is : {X : Type 0} (f : X → ℕ) (g : List X → ℕ) → g [] ≡ 0 → ((x : X) (xs : List X) → g (x ∷ xs) ≡ f x + g xs)
-    → (xs : List X) → total f xs ≡ g xs
-total-is f g none more [] = sym none
-total-is f g none more (x ∷ xs) = omega (arith, more x xs, total-is f g none more xs)
-
--- what bounds every item bounds the largest
-pub largest-most : {X : Type 0} (f : X → ℕ) (n : ℕ) (xs : List X) → ((x : X) → In x xs → f x ≤ n) → largest f xs ≤ n
-largest-most f n [] h = omega arith
-largest-most f n (x ∷ xs) h = omega (arith, h x (inl refl), largest-most f n xs (λ y i. h y (inr i)))

@@ -1,7 +1,8 @@
 // The sum and the largest of a figure over a lent slice, written once for every kind of item.
 ghost use mathlib.Core.Path.{_≡_};
 ghost use Prim.Native.Nat.{ℕ};
-ghost use Rattle.folds.specs.Folds.{Told, total, largest, IsLargest};
+ghost use Rattle.definitions.specs.Lists.{total, largest};
+ghost use Rattle.folds.specs.Folds.{Told, IsLargest};
 
 // A way to measure items of one kind: `figure` says what an item's figure is, and `of` tells it.
 pub trait Measure {

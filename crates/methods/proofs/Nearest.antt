@@ -5,7 +5,7 @@ use native.Mathlib.Omega.{arith}
 use Rattle.definitions.specs.declared.loads.Load.{Load}
 use Rattle.definitions.specs.Loads.{AreLoads}
 use Rattle.definitions.specs.Windows.{horizon}
-use Rattle.folds.specs.Folds.{largest}
+use Rattle.definitions.specs.Lists.{largest}
 use Rattle.theory.proofs.Windows.{horizon-pos, load-pos}
 use Rattle.theory.proofs.Dates.{Before}
 

@@ -1,7 +1,7 @@
 use Prim.Native.Nat.{max}
 use mathlib.Core.Path.{_≡_}
 use lib.ListN.{drop}
-use Rattle.folds.specs.Folds.{largest}
+use Rattle.definitions.specs.Lists.{largest}
 use Rattle.folds.proofs.largest.Given as given
 
 -- the largest so far and the largest of the rest make the largest of all

@@ -1,7 +1,7 @@
 use Prim.Native.Nat.{_+_}
 use mathlib.Core.Path.{_≡_}
 use lib.ListN.{drop}
-use Rattle.folds.specs.Folds.{total}
+use Rattle.definitions.specs.Lists.{total}
 use Rattle.folds.proofs.sum.Given as given
 
 -- what is summed so far and the sum of the rest make the whole sum

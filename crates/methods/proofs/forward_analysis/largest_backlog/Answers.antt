@@ -4,7 +4,6 @@ use mathlib.Core.Logic.{inl, inr}
 use native.Mathlib.Omega.{arith}
 use Rattle.definitions.specs.Windows.{horizon, W}
 use Rattle.theory.proofs.Windows.{horizon-pos}
-use Rattle.methods.proofs.Sums.{total-windows}
 use Rattle.methods.proofs.BusyPeriod.{none-before, past-limit, worst-before, busy-period-ends}
 use Rattle.methods.proofs.forward_analysis.largest_backlog.Needs as need
 
@@ -15,13 +14,13 @@ pub returns-in-Break-work : need.returns-in-Break-work
 returns-in-Break-work c =
     rw (c .from-residual .ensures)
     (past-limit (c .args .rows .now) (c .loop-work .date) (c .loop-work .inv .1)
-    (omega (arith, c .in-Break-work .ensures tt, total-windows (c .loop-work .date) (c .args .rows .now))))
+    (omega (arith, c .in-Break-work .ensures tt)))
 
 pub loop-work-again : need.loop-work-again
 unfolding horizon
 loop-work-again c =
     let work : c .in-Continue-work .work ≡ W (c .args .rows .now) (c .loop-work .date)
-    = omega (arith, c .in-Continue-work .ensures tt, total-windows (c .loop-work .date) (c .args .rows .now)) in (
+    = omega (arith, c .in-Continue-work .ensures tt) in (
       worst-before (c .args .rows .now) (c .loop-work .date) (c .next-date-next .result) (c .loop-work .worst) (c .max-worst .result)
           (c .loop-work .inv .0) (omega (arith, work)) (c .next-date-next .ensures .later) (c .next-date-next .ensures .flat),
       c .if-next-ge-HORIZON .left,
@@ -31,7 +30,7 @@ pub returns : need.returns
 unfolding horizon
 returns c =
     let work : c .in-Continue-work .work ≡ W (c .args .rows .now) (c .loop-work .date)
-    = omega (arith, c .in-Continue-work .ensures tt, total-windows (c .loop-work .date) (c .args .rows .now)) in
+    = omega (arith, c .in-Continue-work .ensures tt) in
     busy-period-ends (c .args .rows .now) (c .loop-work .date) (c .next-date-next .result) (c .loop-work .worst) (c .max-worst .result)
     (c .loop-work .inv .0) (omega (arith, work)) (c .pre) (c .loop-work .inv .1)
     (c .next-date-next .ensures .later) (c .next-date-next .ensures .flat)

@@ -1,4 +1,4 @@
-use Rattle.theory.proofs.overload_passes_every_bound.Needs as need
+use Rattle.theory.proofs.window_laws.overload_passes_every_bound.Needs as need
 use Rattle.theory.proofs.Largest.{overload-passes-every-bound}
 
 pub returns : need.returns

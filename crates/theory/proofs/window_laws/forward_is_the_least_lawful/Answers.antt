@@ -1,4 +1,4 @@
-use Rattle.theory.proofs.forward_is_the_least_lawful.Needs as need
+use Rattle.theory.proofs.window_laws.forward_is_the_least_lawful.Needs as need
 use Rattle.theory.proofs.Largest.{forward-is-the-least-lawful}
 
 pub returns : need.returns

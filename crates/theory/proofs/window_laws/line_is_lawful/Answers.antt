@@ -1,4 +1,4 @@
-use Rattle.theory.proofs.line_is_lawful.Needs as need
+use Rattle.theory.proofs.window_laws.line_is_lawful.Needs as need
 use Rattle.theory.proofs.Line.{line-is-lawful}
 
 pub returns : need.returns
