@@ -138,7 +138,8 @@ or-refused (Some e) a = refused e
 abbrev pub Told : State → (Figures → Answer) → Answer → Type 0
 Told s tell a = elim (s .served) [
   | None ↦ a ≡ refused NoFigures
-  | Some v ↦ (F : Figures) × Settled (s .records) (v .method .worth) F × (a ≡ tell F) ]
+  | Some v ↦ (F : Figures) × Settled (s .records) (v .method .worth) F × (a ≡ tell F)
+]
 
 abbrev pub tell-port : Records → ℕ → Figures → Answer
 tell-port r p F = or-refused
@@ -173,7 +174,8 @@ Does s (remove-link l) a t = DoesOrRefuses (removal-ground (s .records) l) s (ch
 Does s clear a t = (a ≡ done) × (t ≡ changed s no-records)
 Does s (read text) a t = elim (is-empty (s .records)) [
   | true ↦ Reads (reading (s .places) text) s a t
-  | false ↦ (a ≡ refused BookNotEmpty) × (t ≡ s) ]
+  | false ↦ (a ≡ refused BookNotEmpty) × (t ≡ s)
+]
 Does s (work-out m n) a t =
     (o : Outcome) × WorksOut (s .records) (m .worth) n o × (a ≡ answered (refusal-of o)) × (t ≡ worked s m n o)
 Does s (port-figures p) a t = Told s (tell-port (s .records) p) a × (t ≡ s)

@@ -4,6 +4,7 @@
 --   Entry              a record to be entered
 --   first-met          the first ground whose test holds, of tests in the order in which they are tried
 --   full n room most   n records fill a table of so many places, or a book that holds at most so many
+--   port-grounds, link-grounds, hop-grounds   the grounds of an entry, in the order in which they are tried
 --   entry-ground       the ground that an entry meets, if any
 --   removal-ground     the ground that the removal of a link meets, if any
 --   placed lt x xs     x put into the ascending list xs
@@ -73,27 +74,36 @@ abbrev pub first-met : List (Bool × Refusal) → Option Refusal
 first-met [] = None
 first-met (g ∷ gs) = cond (g .0) (Some (g .1)) (first-met gs)
 
-abbrev pub entry-ground : Places → Records → Entry → Option Refusal
-entry-ground pl r (port-entry p) = first-met (
+abbrev pub port-grounds : Places → Records → Port → List (Bool × Refusal)
+port-grounds pl r p =
     (not (rate-known p), RateUnknown)
-  ∷ (has-port r (p .number), PortPresent)
-  ∷ (full (length (r .ports)) (pl .ports) most-ports, PortTableFull)
-  ∷ [])
-entry-ground pl r (link-entry l) = first-met (
+    ∷ (has-port r (p .number), PortPresent)
+    ∷ (full (length (r .ports)) (pl .ports) most-ports, PortTableFull)
+    ∷ []
+
+abbrev pub link-grounds : Places → Records → VirtualLink → List (Bool × Refusal)
+link-grounds pl r l =
     (not (gap-known l), GapUnknown)
-  ∷ (not (lengths-kept l), OutOfRange)
-  ∷ (has-link r (l .number), LinkPresent)
-  ∷ (full (length (r .links)) (pl .links) most-links, LinkTableFull)
-  ∷ [])
-entry-ground pl r (hop-entry h) = first-met (
+    ∷ (not (lengths-kept l), OutOfRange)
+    ∷ (has-link r (l .number), LinkPresent)
+    ∷ (full (length (r .links)) (pl .links) most-links, LinkTableFull)
+    ∷ []
+
+abbrev pub hop-grounds : Places → Records → Hop → List (Bool × Refusal)
+hop-grounds pl r h =
     (not (has-link r (h .link)), LinkUnknown)
-  ∷ (not (has-port r (h .port)), PortUnknown)
-  ∷ (has-hop r (h .link) (h .port), HopPresent)
-  ∷ (not (suits (find-port (r .ports) (h .port) .kind) (h .after)), KindUnsuited)
-  ∷ (begins h && has-first-hop r (h .link), SecondFirstHop)
-  ∷ (not (has-hop-before r h), NoHopBefore)
-  ∷ (full (length (r .hops)) (pl .hops) most-hops, HopTableFull)
-  ∷ [])
+    ∷ (not (has-port r (h .port)), PortUnknown)
+    ∷ (has-hop r (h .link) (h .port), HopPresent)
+    ∷ (not (suits (find-port (r .ports) (h .port) .kind) (h .after)), KindUnsuited)
+    ∷ (begins h && has-first-hop r (h .link), SecondFirstHop)
+    ∷ (not (has-hop-before r h), NoHopBefore)
+    ∷ (full (length (r .hops)) (pl .hops) most-hops, HopTableFull)
+    ∷ []
+
+abbrev pub entry-ground : Places → Records → Entry → Option Refusal
+entry-ground pl r (port-entry p) = first-met (port-grounds pl r p)
+entry-ground pl r (link-entry l) = first-met (link-grounds pl r l)
+entry-ground pl r (hop-entry h) = first-met (hop-grounds pl r h)
 
 abbrev pub removal-ground : Records → ℕ → Option Refusal
 removal-ground r l = first-met ((not (has-link r l), LinkUnknown) ∷ [])
@@ -116,4 +126,5 @@ abbrev pub removed : Records → ℕ → Records
 removed r l = record {
   ports = r .ports;
   links = kept-by (λ (m : VirtualLink). not (eqb (m .number) l)) (r .links);
-  hops = kept-by (λ (h : Hop). not (eqb (h .link) l)) (r .hops) }
+  hops = kept-by (λ (h : Hop). not (eqb (h .link) l)) (r .hops);
+}

@@ -41,7 +41,8 @@ abbrev pub load-of : Records → Figures → Hop → Load
 load-of r F h = record {
   occupancy = occupancy (find-port (r .ports) (h .port)) (find-link (r .links) (h .link) .longest);
   gap = gap-of (find-link (r .links) (h .link));
-  jitter = latest-at F h - earliest-at F h }
+  jitter = latest-at F h - earliest-at F h;
+}
 
 -- the hops of a book stand by link and then port
 abbrev pub hops-at : Records → ℕ → List Hop

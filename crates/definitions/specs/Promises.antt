@@ -25,7 +25,8 @@ use Rattle.definitions.specs.Figures.{Figures, FiguresOf, Settled, OverloadedA
 use Rattle.definitions.specs.Traffic.{Frame, Traffic, Keeps, end, unsent, held-count}
 use Rattle.definitions.specs.WorkingOut.{Outcome, settles, ring, NoPort, WorksOut}
 use Rattle.definitions.specs.Calls.{Method, Served, State, Call, Answer, opened, Fits, After, Runs, Standing}
-use Rattle.definitions.specs.Text.{line-feed, comma, lines, fields, finished, stray, line-of, number-in, reading, written, Section, Columns, columns-of, section-after, heading-in, is-heading, cell-at, Stage, begun, titled, within, ports}
+use Rattle.definitions.specs.Sample.{sample, sample-text, reordered-text, sample-listing, sample-figures, hop-10-3, hop-20-3, frame-10, frame-20, sample-traffic}
+use Rattle.definitions.specs.Text.{line-feed, comma, lines, fields, finished, stray, line-of, number-in, reading, written, listed, Section, Columns, columns-of, section-after, heading-in, is-heading, cell-at, Stage, begun, titled, within, ports}
 
 -- ## Windows and methods
 
@@ -128,14 +129,18 @@ Forward-is-never-larger =
 
 -- ## Runs
 
+-- the tables have the places for the records
+pub record Room (pl : Places) (r : Records) : Type 0 where
+  pub ports-fit : length (r .ports) ≤ min (pl .ports) most-ports
+  pub links-fit : length (r .links) ≤ min (pl .links) most-links
+  pub hops-fit : length (r .hops) ≤ min (pl .hops) most-hops
+
 -- the records that any list of calls leaves are well-formed, in ascending order of keys, and within the tables;
 -- while figures stand, they are settled figures of these records
 pub record Sound (pl : Places) (t : State) : Type 0 where
   pub same-places : t .places ≡ pl
   pub well-formed : WellFormed (t .records)
-  pub ports-fit : length (t .records .ports) ≤ min (pl .ports) most-ports
-  pub links-fit : length (t .records .links) ≤ min (pl .links) most-links
-  pub hops-fit : length (t .records .hops) ≤ min (pl .hops) most-hops
+  pub room : Room pl (t .records)
   pub standing : Standing t
 
 abbrev pub Every-run-is-sound : Type 0
@@ -172,12 +177,6 @@ Parts-make-the-whole =
     ((text : List ℕ) → finished text ≡ true → (joined (λ (l : List ℕ). l ++ (line-feed ∷ [])) (lines text) ≡ text) × All (Lacks line-feed) (lines text))
     × ((l : List ℕ) → (line-of (fields l) ≡ l ++ (line-feed ∷ [])) × All (Lacks comma) (fields l))
 
--- the tables have the places for the records
-pub record Room (pl : Places) (r : Records) : Type 0 where
-  pub ports-fit : length (r .ports) ≤ min (pl .ports) most-ports
-  pub links-fit : length (r .links) ≤ min (pl .links) most-links
-  pub hops-fit : length (r .hops) ≤ min (pl .hops) most-hops
-
 -- what is written for a book is read back as the same book
 abbrev pub Written-text-reads-back : Type 0
 Written-text-reads-back = (r : Records) → WellFormed r → (pl : Places) → Room pl r → reading pl (written r) ≡ Ok r
@@ -204,3 +203,28 @@ abbrev pub Rearranged-text-reads-the-same : Type 0
 Rearranged-text-reads-the-same =
     (pl : Places) (a b : List ℕ) → stray 1 b ≡ None → finished b ≡ true → Rearranged begun begun (lines a) (lines b)
     → (r : Records) → reading pl a ≡ Ok r → reading pl b ≡ Ok r
+
+-- ## The sample network
+
+abbrev pub lister-places : Places
+lister-places = record { ports = 256; links = 512; hops = 1024 }
+
+-- its text, its figures by Forward and by Line, and its listing
+pub record SampleFigures : Type 0 where
+  pub well-formed : WellFormed sample
+  pub text-written : written sample ≡ sample-text
+  pub text-read : reading lister-places sample-text ≡ Ok sample
+  pub reordered-read : reading lister-places reordered-text ≡ Ok sample
+  pub by-forward : Settled sample forward (sample-figures 120000)
+  pub depths : (depth sample (sample-figures 120000) 1 ≡ 1) × (depth sample (sample-figures 120000) 2 ≡ 1) × (depth sample (sample-figures 120000) 3 ≡ 2)
+  pub delays : (delay sample (sample-figures 120000) 10 ≡ 176000) × (delay sample (sample-figures 120000) 20 ≡ 216000)
+  pub listing : listed sample (sample-figures 120000) ≡ sample-listing
+  pub by-line : Settled sample line (sample-figures 122196)
+  pub line-departures : (departure (sample-figures 122196) hop-10-3 ≡ 178196) × (departure (sample-figures 122196) hop-20-3 ≡ 218196)
+
+-- a traffic that keeps its gaps and lengths, in which the unsent time at port 3 reaches its backlog by Forward
+pub record SampleTraffic : Type 0 where
+  pub keeps : Keeps sample sample-traffic
+  pub arrivals : (sample-traffic .arrival frame-20 3 ≡ 96000) × (sample-traffic .arrival frame-10 3 ≡ 96000)
+  pub ends : (end sample sample-traffic frame-20 3 ≡ 176000) × (end sample sample-traffic frame-10 3 ≡ 216000)
+  pub reached : unsent sample sample-traffic 3 96000 ≡ 120000

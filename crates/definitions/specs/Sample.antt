@@ -49,7 +49,8 @@ abbrev pub sample : Records
 sample = record {
   ports = port-1 ∷ port-2 ∷ port-3 ∷ [];
   links = link-10 ∷ link-20 ∷ [];
-  hops = hop-10-1 ∷ hop-10-3 ∷ hop-20-2 ∷ hop-20-3 ∷ [] }
+  hops = hop-10-1 ∷ hop-10-3 ∷ hop-20-2 ∷ hop-20-3 ∷ [];
+}
 
 abbrev pub text-of : List (List ℕ) → List ℕ
 text-of [] = []
@@ -58,49 +59,49 @@ text-of (l ∷ ls) = line-of (l ∷ []) ++ text-of ls
 abbrev pub sample-text : List ℕ
 sample-text = text-of (
     codes "VLT,1"
-  ∷ codes "@port,number,kind,rate"
-  ∷ codes "1,E,100"
-  ∷ codes "2,E,100"
-  ∷ codes "3,S,100"
-  ∷ codes "@link,number,gap,shortest,longest"
-  ∷ codes "10,2,64,500"
-  ∷ codes "20,4,64,1000"
-  ∷ codes "@hop,link,port,after"
-  ∷ codes "10,1,-"
-  ∷ codes "10,3,1"
-  ∷ codes "20,2,-"
-  ∷ codes "20,3,2"
-  ∷ [])
+    ∷ codes "@port,number,kind,rate"
+    ∷ codes "1,E,100"
+    ∷ codes "2,E,100"
+    ∷ codes "3,S,100"
+    ∷ codes "@link,number,gap,shortest,longest"
+    ∷ codes "10,2,64,500"
+    ∷ codes "20,4,64,1000"
+    ∷ codes "@hop,link,port,after"
+    ∷ codes "10,1,-"
+    ∷ codes "10,3,1"
+    ∷ codes "20,2,-"
+    ∷ codes "20,3,2"
+    ∷ [])
 
 -- the same network with its columns in another order, and a column that is not read before the gap
 abbrev pub reordered-text : List ℕ
 reordered-text = text-of (
     codes "VLT,1"
-  ∷ codes "@port,rate,number,kind"
-  ∷ codes "100,1,E"
-  ∷ codes "100,2,E"
-  ∷ codes "100,3,S"
-  ∷ codes "@link,longest,name,gap,number,shortest"
-  ∷ codes "500,left,2,10,64"
-  ∷ codes "1000,right,4,20,64"
-  ∷ codes "@hop,after,link,port"
-  ∷ codes "-,10,1"
-  ∷ codes "1,10,3"
-  ∷ codes "-,20,2"
-  ∷ codes "2,20,3"
-  ∷ [])
+    ∷ codes "@port,rate,number,kind"
+    ∷ codes "100,1,E"
+    ∷ codes "100,2,E"
+    ∷ codes "100,3,S"
+    ∷ codes "@link,longest,name,gap,number,shortest"
+    ∷ codes "500,left,2,10,64"
+    ∷ codes "1000,right,4,20,64"
+    ∷ codes "@hop,after,link,port"
+    ∷ codes "-,10,1"
+    ∷ codes "1,10,3"
+    ∷ codes "-,20,2"
+    ∷ codes "2,20,3"
+    ∷ [])
 
 abbrev pub sample-listing : List ℕ
 sample-listing = text-of (
     codes "VLR,1"
-  ∷ codes "port,1,40000,1"
-  ∷ codes "port,2,80000,1"
-  ∷ codes "port,3,120000,2"
-  ∷ codes "hop,10,1,0,0,40000"
-  ∷ codes "hop,10,3,21120,56000,176000"
-  ∷ codes "hop,20,2,0,0,80000"
-  ∷ codes "hop,20,3,21120,96000,216000"
-  ∷ [])
+    ∷ codes "port,1,40000,1"
+    ∷ codes "port,2,80000,1"
+    ∷ codes "port,3,120000,2"
+    ∷ codes "hop,10,1,0,0,40000"
+    ∷ codes "hop,10,3,21120,56000,176000"
+    ∷ codes "hop,20,2,0,0,80000"
+    ∷ codes "hop,20,3,21120,96000,216000"
+    ∷ [])
 
 -- by port 1, 2 and any other; link 10 and any other
 abbrev pub by-port : ℕ → ℕ → ℕ → ℕ → ℕ
@@ -110,7 +111,8 @@ abbrev pub sample-figures : ℕ → Figures
 sample-figures third = record {
   backlog = λ p. by-port 40000 80000 third p;
   earliest = λ l p. by-port 0 0 21120 p;
-  latest = λ l p. by-port 0 0 (cond (eqb l 10) 56000 96000) p }
+  latest = λ l p. by-port 0 0 (cond (eqb l 10) 56000 96000) p;
+}
 
 -- ## A traffic
 
@@ -126,4 +128,5 @@ abbrev pub sample-traffic : Traffic
 sample-traffic = record {
   frames = frame-20 ∷ frame-10 ∷ [];
   arrival = λ f p. by-port (f .release) (f .release) 96000 p;
-  start = λ f p. by-port (f .release) (f .release) (cond (eqb (f .link) 20) 96000 176000) p }
+  start = λ f p. by-port (f .release) (f .release) (cond (eqb (f .link) 20) 96000 176000) p;
+}

@@ -158,7 +158,8 @@ all-places [] names = Some []
 all-places (c ∷ cs) names =
     elim (sole (places-of (c .name) 0 names)) [
       | Some i ↦ elim (all-places cs names) [ Some is ↦ Some (i ∷ is) | None ↦ None ]
-      | None ↦ None ]
+      | None ↦ None
+    ]
 
 abbrev pub heading-in : Section → List (List ℕ) → Option Columns
 heading-in s [] = None
@@ -192,16 +193,19 @@ abbrev pub row-entry : Section → Columns → List (List ℕ) → Entry
 row-entry ports c fs = port-entry record {
   number = valueOr (byte-in (cell-at c fs 0)) 0;
   kind = valueOr (kind-in (cell-at c fs 1)) End;
-  rate = valueOr (word-in (cell-at c fs 2)) 0 }
+  rate = valueOr (word-in (cell-at c fs 2)) 0;
+}
 row-entry links c fs = link-entry record {
   number = valueOr (word-in (cell-at c fs 0)) 0;
   gap = valueOr (word-in (cell-at c fs 1)) 0;
   shortest = valueOr (word-in (cell-at c fs 2)) 0;
-  longest = valueOr (word-in (cell-at c fs 3)) 0 }
+  longest = valueOr (word-in (cell-at c fs 3)) 0;
+}
 row-entry hops c fs = hop-entry record {
   link = valueOr (word-in (cell-at c fs 0)) 0;
   port = valueOr (byte-in (cell-at c fs 1)) 0;
-  after = valueOr (before-in (cell-at c fs 2)) None }
+  after = valueOr (before-in (cell-at c fs 2)) None;
+}
 
 -- fields are counted from 1
 abbrev pub entry-in : Section → Columns → ℕ → List (List ℕ) → Result Entry Refusal
@@ -234,7 +238,8 @@ abbrev pub read-mark : ℕ → Records → List ℕ → Result Seen Refusal
 read-mark n r line =
     elim (version-in (fields line)) [
       | Some v ↦ cond (eqb v 1) (Ok (seen titled r)) (Err (VersionUnknown n))
-      | None ↦ Err (MarkMissing n) ]
+      | None ↦ Err (MarkMissing n)
+    ]
 
 abbrev pub read-heading : Section → ℕ → Records → List ℕ → Result Seen Refusal
 read-heading s n r line =
@@ -244,9 +249,11 @@ abbrev pub read-row : Places → Section → Columns → ℕ → Records → Lis
 read-row pl s c n r line =
     elim (entry-in s c n (fields line)) [
       | Ok e ↦ elim (entry-ground pl r e) [
-          | None ↦ Ok (seen (within s c) (entered r e))
-          | Some g ↦ Err (EntryRefused n (number g)) ]
-      | Err f ↦ Err f ]
+        | None ↦ Ok (seen (within s c) (entered r e))
+        | Some g ↦ Err (EntryRefused n (number g))
+      ]
+      | Err f ↦ Err f
+    ]
 
 abbrev pub read-line : Places → ℕ → Stage → Records → List ℕ → Result Seen Refusal
 read-line pl n begun r line = read-mark n r line
@@ -274,13 +281,15 @@ abbrev pub reading-lines : Places → List (List ℕ) → Result Records Refusal
 reading-lines pl ls =
     elim (read-lines pl 1 (seen begun no-records) ls) [
       | Ok s ↦ cond (complete (s .stage)) (Ok (s .records)) (Err (HeadingWrong (length ls + 1)))
-      | Err f ↦ Err f ]
+      | Err f ↦ Err f
+    ]
 
 abbrev pub reading : Places → List ℕ → Result Records Refusal
 reading pl text =
     elim (stray 1 text) [
       | Some n ↦ Err (ByteForbidden n)
-      | None ↦ cond (finished text) (reading-lines pl (lines text)) (Err (LineUnfinished (line-feeds text + 1))) ]
+      | None ↦ cond (finished text) (reading-lines pl (lines text)) (Err (LineUnfinished (line-feeds text + 1)))
+    ]
 
 -- ## Writing
 
@@ -325,7 +334,7 @@ abbrev pub written-before : List Hop → Hop → Hop → Bool
 written-before hs h k =
     ltb (h .link) (k .link)
     || (eqb (h .link) (k .link)
-        && (ltb (step-of hs h) (step-of hs k) || (eqb (step-of hs h) (step-of hs k) && ltb (h .port) (k .port))))
+    && (ltb (step-of hs h) (step-of hs k) || (eqb (step-of hs h) (step-of hs k) && ltb (h .port) (k .port))))
 
 abbrev pub sorted : {X : Type 0} → (X → X → Bool) → List X → List X
 sorted lt [] = []
@@ -354,7 +363,7 @@ port-listed r F p = line-of (codes "port" ∷ decimal (p .number) ∷ decimal (F
 abbrev pub hop-listed : Figures → Hop → List ℕ
 hop-listed F h =
     line-of (codes "hop" ∷ decimal (h .link) ∷ decimal (h .port)
-        ∷ decimal (earliest-at F h) ∷ decimal (latest-at F h) ∷ decimal (departure F h) ∷ [])
+    ∷ decimal (earliest-at F h) ∷ decimal (latest-at F h) ∷ decimal (departure F h) ∷ [])
 
 abbrev pub listed : Records → Figures → List ℕ
 listed r F = line-of (codes "VLR,1" ∷ []) ++ (joined (port-listed r F) (r .ports) ++ joined (hop-listed F) (written-hops r))

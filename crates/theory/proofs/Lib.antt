@@ -3,3 +3,9 @@ pub mod Windows
 pub mod Largest
 pub mod Dates
 pub mod Line
+pub mod Options
+pub mod Placed
+pub mod KeptRules
+pub mod SoundRuns
+pub mod SampleTried
+pub mod SampleFrames

@@ -1,0 +1,131 @@
+-- Lists that are tested, kept in part, or take one more item in order.
+use Prim.Native.Nat.{ℕ, suc, _+_, _≤_}
+use mathlib.Core.Path.{_≡_, refl, ap, sym, _∙_, subst}
+use mathlib.Core.Bool.{Bool, true, false, cond, not, _&&_, _||_}
+use mathlib.Core.List.{List, [], _∷_}
+use mathlib.Core.Logic.{_⊎_, inl, inr}
+use native.Mathlib.Omega.{arith}
+use lib.ListN.{length}
+use Rattle.std.specs.shelf.Lists.{kept-by}
+use Rattle.std.proofs.shelf.Tests.{and-parts, and-from, or-cases, or-parts, or-left, or-right, both-ways, cases-bool}
+use Rattle.definitions.specs.Lists.{In, every, some, ascending}
+use Rattle.definitions.specs.Entries.{placed}
+
+-- an item that passes makes the test of some item true
+pub some-from : {X : Type 0} (t : X → Bool) (x : X) (xs : List X) → In x xs → t x ≡ true → some t xs ≡ true
+some-from t x [] i h = absurd i
+some-from t x (y ∷ ys) (inl e) h = or-left (t y) (some t ys) (sym (ap t e) ∙ h)
+some-from t x (y ∷ ys) (inr i) h = or-right (t y) (some t ys) (some-from t x ys i h)
+
+-- and there is one where it is true
+pub some-gives : {X : Type 0} (t : X → Bool) (xs : List X) → some t xs ≡ true → (x : X) × In x xs × (t x ≡ true)
+some-gives t [] h = absurd (both-ways false refl h)
+some-gives t (y ∷ ys) h = elim (or-cases (t y) (some t ys) h) [
+  | inl e ↦ (y, inl refl, e)
+  | inr e ↦ (some-gives t ys e .0, inr (some-gives t ys e .1), some-gives t ys e .2)
+]
+
+-- none passes where it is false
+pub some-none : {X : Type 0} (t : X → Bool) (xs : List X) → some t xs ≡ false → (x : X) → In x xs → t x ≡ false
+some-none t [] h x i = absurd i
+some-none t (y ∷ ys) h x (inl e) = ap t e ∙ or-parts (t y) (some t ys) h .0
+some-none t (y ∷ ys) h x (inr i) = some-none t ys (or-parts (t y) (some t ys) h .1) x i
+
+pub every-from : {X : Type 0} (t : X → Bool) (xs : List X) → ((x : X) → In x xs → t x ≡ true) → every t xs ≡ true
+every-from t [] h = refl
+every-from t (y ∷ ys) h = and-from (t y) (every t ys) (h y (inl refl)) (every-from t ys (λ x i. h x (inr i)))
+
+pub every-at : {X : Type 0} (t : X → Bool) (xs : List X) → every t xs ≡ true → (x : X) → In x xs → t x ≡ true
+every-at t [] h x i = absurd i
+every-at t (y ∷ ys) h x (inl e) = ap t e ∙ and-parts (t y) (every t ys) h .0
+every-at t (y ∷ ys) h x (inr i) = every-at t ys (and-parts (t y) (every t ys) h .1) x i
+
+-- ## One item more
+
+module _ {X : Type 0} (lt : X → X → Bool) (y : X) where
+  pub placed-self : (xs : List X) → In y (placed lt y xs)
+  placed-self [] = inl refl
+  placed-self (x ∷ xs) = elim (lt y x) as (λ b. In y (cond b (y ∷ x ∷ xs) (x ∷ placed lt y xs))) [
+    | true ↦ inl refl
+    | false ↦ inr (placed-self xs)
+  ]
+
+  pub placed-old : (xs : List X) (x : X) → In x xs → In x (placed lt y xs)
+  placed-old [] x i = absurd i
+  placed-old (z ∷ zs) x i = elim (lt y z) as (λ b. In x (cond b (y ∷ z ∷ zs) (z ∷ placed lt y zs))) [
+    | true ↦ inr i
+    | false ↦ elim i [ inl e ↦ inl e | inr j ↦ inr (placed-old zs x j) ]
+  ]
+
+  pub in-placed : (xs : List X) (x : X) → In x (placed lt y xs) → (x ≡ y) ⊎ In x xs
+  in-placed [] x i = i
+  in-placed (z ∷ zs) x i = elim (lt y z) as (λ b. In x (cond b (y ∷ z ∷ zs) (z ∷ placed lt y zs)) → (x ≡ y) ⊎ In x (z ∷ zs)) [
+    | true ↦ λ j. j
+    | false ↦ λ j. elim j [
+      | inl e ↦ inr (inl e)
+      | inr k ↦ elim (in-placed zs x k) [ inl e ↦ inl e | inr l ↦ inr (inr l) ]
+    ]
+  ] i
+
+  pub length-placed : (xs : List X) → length (placed lt y xs) ≡ length xs + 1
+  length-placed [] = refl
+  length-placed (z ∷ zs) = elim (lt y z) as (λ b. length (cond b (y ∷ z ∷ zs) (z ∷ placed lt y zs)) ≡ length (z ∷ zs) + 1) [
+    | true ↦ omega arith
+    | false ↦ omega (arith, length-placed zs)
+  ]
+
+  -- an item that is before or after each of an ascending list keeps it ascending
+  pub placed-ascends : ((a b c : X) → lt a b ≡ true → lt b c ≡ true → lt a c ≡ true) → (xs : List X)
+      → ((x : X) → In x xs → lt y x ≡ false → lt x y ≡ true) → ascending lt xs ≡ true → ascending lt (placed lt y xs) ≡ true
+  placed-ascends tr [] h a = refl
+  placed-ascends tr (z ∷ zs) h a =
+      let p = and-parts (every (lt z) zs) (ascending lt zs) a in
+      elim (lt y z) as (λ b. lt y z ≡ b → ascending lt (cond b (y ∷ z ∷ zs) (z ∷ placed lt y zs)) ≡ true) [
+        | true ↦ λ e. and-from (every (lt y) (z ∷ zs)) (ascending lt (z ∷ zs))
+            (and-from (lt y z) (every (lt y) zs) e (every-from (lt y) zs (λ x i. tr y z x e (every-at (lt z) zs (p .0) x i)))) a
+        | false ↦ λ e. and-from (every (lt z) (placed lt y zs)) (ascending lt (placed lt y zs))
+            (every-from (lt z) (placed lt y zs) (λ x i. elim (in-placed zs x i) [
+              | inl q ↦ ap (lt z) q ∙ h z (inl refl) e
+              | inr j ↦ every-at (lt z) zs (p .0) x j
+            ]))
+            (placed-ascends tr zs (λ x i. h x (inr i)) (p .1))
+      ] refl
+
+-- ## A part kept
+
+pub kept-in : {X : Type 0} (t : X → Bool) (xs : List X) (x : X) → In x (kept-by t xs) → In x xs × (t x ≡ true)
+kept-in t [] x i = absurd i
+kept-in t (y ∷ ys) x i = elim (t y) as (λ b. t y ≡ b → In x (cond b (y ∷ kept-by t ys) (kept-by t ys)) → In x (y ∷ ys) × (t x ≡ true)) [
+  | true ↦ λ e j. elim j [
+    | inl q ↦ (inl q, ap t q ∙ e)
+    | inr k ↦ (inr (kept-in t ys x k .0), kept-in t ys x k .1)
+  ]
+  | false ↦ λ e k. (inr (kept-in t ys x k .0), kept-in t ys x k .1)
+] refl i
+
+pub in-kept : {X : Type 0} (t : X → Bool) (xs : List X) (x : X) → In x xs → t x ≡ true → In x (kept-by t xs)
+in-kept t [] x i h = absurd i
+in-kept t (y ∷ ys) x i h = elim (t y) as (λ b. t y ≡ b → In x (cond b (y ∷ kept-by t ys) (kept-by t ys))) [
+  | true ↦ λ e. elim i [ inl q ↦ inl q | inr k ↦ inr (in-kept t ys x k h) ]
+  | false ↦ λ e. elim i [
+    | inl q ↦ absurd (both-ways (t y) e (sym (ap t q) ∙ h))
+    | inr k ↦ in-kept t ys x k h
+  ]
+] refl
+
+pub kept-ascends : {X : Type 0} (lt : X → X → Bool) (t : X → Bool) (xs : List X) → ascending lt xs ≡ true → ascending lt (kept-by t xs) ≡ true
+kept-ascends lt t [] a = refl
+kept-ascends lt t (y ∷ ys) a =
+    let p = and-parts (every (lt y) ys) (ascending lt ys) a in
+    elim (t y) as (λ b. ascending lt (cond b (y ∷ kept-by t ys) (kept-by t ys)) ≡ true) [
+      | true ↦ and-from (every (lt y) (kept-by t ys)) (ascending lt (kept-by t ys))
+          (every-from (lt y) (kept-by t ys) (λ x i. every-at (lt y) ys (p .0) x (kept-in t ys x i .0))) (kept-ascends lt t ys (p .1))
+      | false ↦ kept-ascends lt t ys (p .1)
+    ]
+
+pub length-kept : {X : Type 0} (t : X → Bool) (xs : List X) → length (kept-by t xs) ≤ length xs
+length-kept t [] = omega arith
+length-kept t (y ∷ ys) = elim (t y) as (λ b. length (cond b (y ∷ kept-by t ys) (kept-by t ys)) ≤ length (y ∷ ys)) [
+  | true ↦ omega (arith, length-kept t ys)
+  | false ↦ omega (arith, length-kept t ys)
+]
