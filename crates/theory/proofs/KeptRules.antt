@@ -21,7 +21,9 @@ use Rattle.definitions.specs.Network.{Records, find-port, port-before, link-bef
 use Rattle.definitions.specs.Entries.{Places, Entry, port-entry, link-entry, hop-entry, first-met, port-grounds, link-grounds, hop-grounds, entry-ground, removal-ground, entered, removed, no-records, placed, rate-known, gap-known, lengths-kept, has-port, has-link, has-hop, has-first-hop, has-hop-before, begins, full}
 use Rattle.definitions.specs.Calls.{Fits, enter}
 use Rattle.definitions.specs.Promises.{Room}
-use Rattle.theory.proofs.Placed.{some-from, some-gives, some-none, placed-self, placed-old, in-placed, length-placed, placed-ascends, kept-in, in-kept, kept-ascends, length-kept}
+use Rattle.theory.proofs.Members.{in-some, some-in, in-kept, kept-in}
+use Rattle.theory.proofs.Lookups.{find-port-known}
+use Rattle.theory.proofs.Placed.{some-none, placed-old, in-placed, length-placed, placed-ascends, kept-ascends, length-kept}
 
 -- ## The orders of keys
 
@@ -63,22 +65,7 @@ step-grows : (r s : Records) → ((k : Hop) → In k (r .hops) → In k (s .hops
 step-grows r s g h n (first e) = first e
 step-grows r s g h n (next p st) = next (record { there = g _ (p .there); same-link = p .same-link; before = p .before }) (step-grows r s g _ _ st)
 
--- ## Looking up
-
--- a number that is there is found
-pub found-port : (ps : List Port) (n : ℕ) → some (λ (p : Port). eqb (p .number) n) ps ≡ true
-    → In (find-port ps n) ps × (find-port ps n .number ≡ n)
-found-port [] n h = absurd (both-ways false refl h)
-found-port (p ∷ ps) n h = elim (eqb (p .number) n) as (λ b. eqb (p .number) n ≡ b
-    → In (cond b p (find-port ps n)) (p ∷ ps) × ((cond b p (find-port ps n)) .number ≡ n)) [
-      | true ↦ λ e. (inl refl, eqb-true (p .number) n e)
-      | false ↦ λ e.
-          let i = found-port ps n (elim (or-cases (eqb (p .number) n) (some (λ (q : Port). eqb (q .number) n) ps) h) [
-            | inl t ↦ absurd (both-ways (eqb (p .number) n) e t)
-            | inr t ↦ t
-          ]) in
-          (inr (i .0), i .1)
-    ] refl
+-- ## Tests that hold
 
 bag-in : (g : ℕ) (bs : List ℕ) → some (eqb g) bs ≡ true → In g bs
 bag-in g [] h = absurd (both-ways false refl h)
@@ -174,7 +161,7 @@ new-step r s h w g = go (h .after) refl
     go : (o : Option ℕ) → h .after ≡ o → elim o as (λ _. Bool) [ None ↦ true | Some q ↦ has-hop r (h .link) q ] ≡ true → (n : ℕ) × Step s h n
     go None e t = (0, first e)
     go (Some q) e t =
-        let k = some-gives (λ (k : Hop). eqb (k .link) (h .link) && eqb (k .port) q) (r .hops) t in
+        let k = some-in (λ (k : Hop). eqb (k .link) (h .link) && eqb (k .port) q) (r .hops) t in
         let both = and-parts (eqb (k .0 .link) (h .link)) (eqb (k .0 .port) q) (k .2) in
         let st = w .hops-kept (k .0) (k .1) .stepped in (
           suc (st .0),
@@ -191,15 +178,16 @@ hop-entered : (pl : Places) (r : Records) (h : Hop) → WellFormed r → entry-g
 hop-entered pl r h w g =
     let n = none-met (hop-grounds pl r h) g in
     let s = entered r (hop-entry h) in
-    let link = some-gives (λ (l : VirtualLink). eqb (l .number) (h .link)) (r .links) (not-false (has-link r (h .link)) (n .0)) in
-    let port = found-port (r .ports) (h .port) (not-false (has-port r (h .port)) (n .1 .0)) in
+    let link = some-in (λ (l : VirtualLink). eqb (l .number) (h .link)) (r .links) (not-false (has-link r (h .link)) (n .0)) in
+    let there = some-in (λ (p : Port). eqb (p .number) (h .port)) (r .ports) (not-false (has-port r (h .port)) (n .1 .0)) in
+    let port = find-port-known (r .ports) (h .port) (there .0) (there .1) (eqb-true (there .0 .number) (h .port) (there .2)) in
     let old : (k : Hop) → In k (r .hops) → In k (s .hops) = placed-old hop-before h (r .hops) in
     -- a first hop of the link would have been a second one
     let alone : (k : Hop) → In k (r .hops) → k .link ≡ h .link → k .after ≡ None → h .after ≡ None → ⊥ = λ k i l a b.
     elim (and-cases (begins h) (has-first-hop r (h .link)) (n .1 .1 .1 .1 .0)) [
       | inl e ↦ both-ways (begins h) e (begins-from h b)
       | inr e ↦ both-ways (has-first-hop r (h .link)) e
-          (some-from (λ (x : Hop). eqb (x .link) (h .link) && begins x) k (r .hops) i (and-from (eqb (k .link) (h .link)) (begins k) (eq-eqb (k .link) (h .link) l) (begins-from k a)))
+          (in-some (λ (x : Hop). eqb (x .link) (h .link) && begins x) (r .hops) k i (and-from (eqb (k .link) (h .link)) (begins k) (eq-eqb (k .link) (h .link) l) (begins-from k a)))
     ] in (
       record {
         ports-ascend = w .ports-ascend;

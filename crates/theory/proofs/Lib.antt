@@ -4,6 +4,12 @@ pub mod Largest
 pub mod Dates
 pub mod Line
 pub mod Options
+pub mod Members
+pub mod Lookups
+pub mod OnePort
+pub mod Spacing
+pub mod PortLoads
+pub mod OnTime
 pub mod Placed
 pub mod KeptRules
 pub mod SoundRuns

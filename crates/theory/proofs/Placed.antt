@@ -10,20 +10,8 @@ use Rattle.std.specs.shelf.Lists.{kept-by}
 use Rattle.std.proofs.shelf.Tests.{and-parts, and-from, or-cases, or-parts, or-left, or-right, both-ways, cases-bool}
 use Rattle.definitions.specs.Lists.{In, every, some, ascending}
 use Rattle.definitions.specs.Entries.{placed}
-
--- an item that passes makes the test of some item true
-pub some-from : {X : Type 0} (t : X → Bool) (x : X) (xs : List X) → In x xs → t x ≡ true → some t xs ≡ true
-some-from t x [] i h = absurd i
-some-from t x (y ∷ ys) (inl e) h = or-left (t y) (some t ys) (sym (ap t e) ∙ h)
-some-from t x (y ∷ ys) (inr i) h = or-right (t y) (some t ys) (some-from t x ys i h)
-
--- and there is one where it is true
-pub some-gives : {X : Type 0} (t : X → Bool) (xs : List X) → some t xs ≡ true → (x : X) × In x xs × (t x ≡ true)
-some-gives t [] h = absurd (both-ways false refl h)
-some-gives t (y ∷ ys) h = elim (or-cases (t y) (some t ys) h) [
-  | inl e ↦ (y, inl refl, e)
-  | inr e ↦ (some-gives t ys e .0, inr (some-gives t ys e .1), some-gives t ys e .2)
-]
+use Rattle.theory.proofs.Members.{kept-in}
+use Rattle.theory.proofs.Lookups.{in-every}
 
 -- none passes where it is false
 pub some-none : {X : Type 0} (t : X → Bool) (xs : List X) → some t xs ≡ false → (x : X) → In x xs → t x ≡ false
@@ -34,11 +22,6 @@ some-none t (y ∷ ys) h x (inr i) = some-none t ys (or-parts (t y) (some t ys) 
 pub every-from : {X : Type 0} (t : X → Bool) (xs : List X) → ((x : X) → In x xs → t x ≡ true) → every t xs ≡ true
 every-from t [] h = refl
 every-from t (y ∷ ys) h = and-from (t y) (every t ys) (h y (inl refl)) (every-from t ys (λ x i. h x (inr i)))
-
-pub every-at : {X : Type 0} (t : X → Bool) (xs : List X) → every t xs ≡ true → (x : X) → In x xs → t x ≡ true
-every-at t [] h x i = absurd i
-every-at t (y ∷ ys) h x (inl e) = ap t e ∙ and-parts (t y) (every t ys) h .0
-every-at t (y ∷ ys) h x (inr i) = every-at t ys (and-parts (t y) (every t ys) h .1) x i
 
 -- ## One item more
 
@@ -82,36 +65,16 @@ module _ {X : Type 0} (lt : X → X → Bool) (y : X) where
       let p = and-parts (every (lt z) zs) (ascending lt zs) a in
       elim (lt y z) as (λ b. lt y z ≡ b → ascending lt (cond b (y ∷ z ∷ zs) (z ∷ placed lt y zs)) ≡ true) [
         | true ↦ λ e. and-from (every (lt y) (z ∷ zs)) (ascending lt (z ∷ zs))
-            (and-from (lt y z) (every (lt y) zs) e (every-from (lt y) zs (λ x i. tr y z x e (every-at (lt z) zs (p .0) x i)))) a
+            (and-from (lt y z) (every (lt y) zs) e (every-from (lt y) zs (λ x i. tr y z x e (in-every (lt z) zs (p .0) x i)))) a
         | false ↦ λ e. and-from (every (lt z) (placed lt y zs)) (ascending lt (placed lt y zs))
             (every-from (lt z) (placed lt y zs) (λ x i. elim (in-placed zs x i) [
               | inl q ↦ ap (lt z) q ∙ h z (inl refl) e
-              | inr j ↦ every-at (lt z) zs (p .0) x j
+              | inr j ↦ in-every (lt z) zs (p .0) x j
             ]))
             (placed-ascends tr zs (λ x i. h x (inr i)) (p .1))
       ] refl
 
 -- ## A part kept
-
-pub kept-in : {X : Type 0} (t : X → Bool) (xs : List X) (x : X) → In x (kept-by t xs) → In x xs × (t x ≡ true)
-kept-in t [] x i = absurd i
-kept-in t (y ∷ ys) x i = elim (t y) as (λ b. t y ≡ b → In x (cond b (y ∷ kept-by t ys) (kept-by t ys)) → In x (y ∷ ys) × (t x ≡ true)) [
-  | true ↦ λ e j. elim j [
-    | inl q ↦ (inl q, ap t q ∙ e)
-    | inr k ↦ (inr (kept-in t ys x k .0), kept-in t ys x k .1)
-  ]
-  | false ↦ λ e k. (inr (kept-in t ys x k .0), kept-in t ys x k .1)
-] refl i
-
-pub in-kept : {X : Type 0} (t : X → Bool) (xs : List X) (x : X) → In x xs → t x ≡ true → In x (kept-by t xs)
-in-kept t [] x i h = absurd i
-in-kept t (y ∷ ys) x i h = elim (t y) as (λ b. t y ≡ b → In x (cond b (y ∷ kept-by t ys) (kept-by t ys))) [
-  | true ↦ λ e. elim i [ inl q ↦ inl q | inr k ↦ inr (in-kept t ys x k h) ]
-  | false ↦ λ e. elim i [
-    | inl q ↦ absurd (both-ways (t y) e (sym (ap t q) ∙ h))
-    | inr k ↦ in-kept t ys x k h
-  ]
-] refl
 
 pub kept-ascends : {X : Type 0} (lt : X → X → Bool) (t : X → Bool) (xs : List X) → ascending lt xs ≡ true → ascending lt (kept-by t xs) ≡ true
 kept-ascends lt t [] a = refl
@@ -119,7 +82,7 @@ kept-ascends lt t (y ∷ ys) a =
     let p = and-parts (every (lt y) ys) (ascending lt ys) a in
     elim (t y) as (λ b. ascending lt (cond b (y ∷ kept-by t ys) (kept-by t ys)) ≡ true) [
       | true ↦ and-from (every (lt y) (kept-by t ys)) (ascending lt (kept-by t ys))
-          (every-from (lt y) (kept-by t ys) (λ x i. every-at (lt y) ys (p .0) x (kept-in t ys x i .0))) (kept-ascends lt t ys (p .1))
+          (every-from (lt y) (kept-by t ys) (λ x i. in-every (lt y) ys (p .0) x (kept-in t ys x i .0))) (kept-ascends lt t ys (p .1))
       | false ↦ kept-ascends lt t ys (p .1)
     ]
 

@@ -2,4 +2,5 @@
 // the crate is built only when the law is proved.
 pub mod run_laws;
 pub mod sample_laws;
+pub mod traffic_laws;
 pub mod window_laws;

@@ -1,0 +1,2 @@
+// An ordered table of records over a slice that the caller lends: no key stands twice, and keys ascend.
+pub mod keys;
