@@ -3,15 +3,17 @@
 --   In x xs             x stands in the list
 --   total f xs          the sum of f over the list
 --   largest f xs        the largest of f over the list, 0 for the empty list
+--   find key none xs n  the first item whose key is n, or `none` where there is no such item
 --   every test xs       the test holds of each item
 --   some test xs        the test holds of some item
 --   ascending lt xs     each item comes before (lt) all that follow it
 
 use Prim.Native.Nat.{ℕ, _+_, max}
 use mathlib.Core.Path.{_≡_}
-use mathlib.Core.Bool.{Bool, true, false, _&&_, _||_}
+use mathlib.Core.Bool.{Bool, true, false, cond, _&&_, _||_}
 use mathlib.Core.List.{List, [], _∷_}
 use mathlib.Core.Logic.{_⊎_}
+use lib.Dec.{eqb}
 
 abbrev pub In : {X : Type 0} → X → List X → Type 0
 In x [] = ⊥
@@ -24,6 +26,10 @@ total f (x ∷ xs) = f x + total f xs
 abbrev pub largest : {X : Type 0} → (X → ℕ) → List X → ℕ
 largest f [] = 0
 largest f (x ∷ xs) = max (f x) (largest f xs)
+
+abbrev pub find : {X : Type 0} → (X → ℕ) → X → List X → ℕ → X
+find key none [] n = none
+find key none (x ∷ xs) n = cond (eqb (key x) n) x (find key none xs n)
 
 abbrev pub every : {X : Type 0} → (X → Bool) → List X → Bool
 every test [] = true

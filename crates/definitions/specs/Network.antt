@@ -30,7 +30,7 @@ use Rattle.definitions.specs.declared.network.PortKind.the-variants.{End, Swit
 use Rattle.definitions.specs.declared.network.Port.{Port}
 use Rattle.definitions.specs.declared.network.VirtualLink.{VirtualLink}
 use Rattle.definitions.specs.declared.network.Hop.{Hop}
-use Rattle.definitions.specs.Lists.{In, ascending}
+use Rattle.definitions.specs.Lists.{In, find, ascending}
 
 pub record Records : Type 0 where
   pub ports : List Port
@@ -52,12 +52,10 @@ gap-of l = l .gap * 1000000
 -- ## Looking up
 
 abbrev pub find-port : List Port → ℕ → Port
-find-port [] n = record { number = 0; kind = End; rate = 0 }
-find-port (p ∷ ps) n = cond (eqb (p .number) n) p (find-port ps n)
+find-port ps n = find (λ (p : Port). p .number) record { number = 0; kind = End; rate = 0 } ps n
 
 abbrev pub find-link : List VirtualLink → ℕ → VirtualLink
-find-link [] n = record { number = 0; gap = 0; shortest = 0; longest = 0 }
-find-link (l ∷ ls) n = cond (eqb (l .number) n) l (find-link ls n)
+find-link ls n = find (λ (l : VirtualLink). l .number) record { number = 0; gap = 0; shortest = 0; longest = 0 } ls n
 
 -- ## Order of keys
 

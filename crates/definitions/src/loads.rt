@@ -61,3 +61,31 @@ fn is_gap(gap: u64) -> bool
         _ => false,
     }
 }
+
+#[cfg(test)]
+mod tests {
+    use super::*;
+    use std::test::*;
+
+    // The number of the ground on which the load is refused, or none where it is made.
+    fn ground(occupancy: u64, gap: u64, jitter: u64) -> Option<u8> {
+        Some(Load::new(occupancy, gap, jitter).err()?.number())
+    }
+
+    #[test]
+    fn makings() -> Result<(), Fail> {
+        for (occupancy, gap, jitter, number) in [
+            (1, 1_000_000, 0, None),
+            (2_000_000, 128_000_000, 10_000_016_000, None),
+            (1, 3_000_000, 0, Some(4)),
+            (0, 1_000_000, 0, Some(5)),
+            (2_000_001, 1_000_000, 0, Some(5)),
+            (1, 1_000_000, 10_000_016_001, Some(5)),
+            // the gap is tried first
+            (0, 3_000_000, 10_000_016_001, Some(4)),
+        ] {
+            check_eq(ground(occupancy, gap, jitter), number)?;
+        }
+        Ok(())
+    }
+}

@@ -11,6 +11,8 @@ pub mod forward_analysis;
 mod measures;
 pub mod network_calculus;
 pub mod overload;
+#[cfg(test)]
+mod tests;
 
 // A method. `worth` is what it means: a number for every list of loads that is not overloaded,
 // which is at least W(t) − t for every whole t.

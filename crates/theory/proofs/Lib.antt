@@ -10,6 +10,13 @@ pub mod OnePort
 pub mod Spacing
 pub mod PortLoads
 pub mod OnTime
+pub mod Keys
+pub mod Rings
+pub mod Order
+pub mod Unique
+pub mod Exist
+pub mod Outcomes
+pub mod Smaller
 pub mod Placed
 pub mod KeptRules
 pub mod SoundRuns

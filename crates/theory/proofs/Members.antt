@@ -1,6 +1,6 @@
 -- Members: what stands in a list, and sums over it.
-use Prim.Native.Nat.{ℕ, _+_, _≤_}
-use mathlib.Core.Path.{_≡_, refl}
+use Prim.Native.Nat.{ℕ, _+_, _≤_, _<_}
+use mathlib.Core.Path.{_≡_, refl, ap}
 use mathlib.Core.Bool.{Bool, true, false, cond}
 use mathlib.Core.List.{List, [], _∷_, map}
 use mathlib.Core.Logic.{_⊎_, inl, inr}
@@ -93,3 +93,23 @@ total-kept f test x xs =
       | inl t ↦ rw t (omega arith)
       | inr t ↦ rw t (omega arith)
     ]
+
+-- a sum of no larger items is smaller where one is
+pub total-less : {X : Type 0} (f g : X → ℕ) (xs : List X) → ((x : X) → In x xs → f x ≤ g x)
+    → (y : X) → In y xs → f y < g y → total f xs < total g xs
+total-less f g [] h y i lt = absurd i
+total-less f g (x ∷ xs) h y (inl e) lt =
+    omega (arith, ap f e, ap g e, total-le f g xs (λ z j. h z (inr j)))
+total-less f g (x ∷ xs) h y (inr i) lt =
+    omega (arith, h x (inl refl), total-less f g xs (λ z j. h z (inr j)) y i lt)
+
+-- a function that is nowhere larger has no larger largest value
+pub largest-mono : {X : Type 0} (f g : X → ℕ) (xs : List X) → ((x : X) → In x xs → f x ≤ g x) → largest f xs ≤ largest g xs
+largest-mono f g [] h = omega arith
+largest-mono f g (x ∷ xs) h = omega (arith, h x (inl refl), largest-mono f g xs (λ y i. h y (inr i)))
+
+-- an item's image stands in the map
+pub in-map : {X Y : Type 0} (f : X → Y) (xs : List X) (x : X) → In x xs → In (f x) (map f xs)
+in-map f [] x i = absurd i
+in-map f (y ∷ ys) x (inl e) = inl (ap f e)
+in-map f (y ∷ ys) x (inr i) = inr (in-map f ys x i)

@@ -7,7 +7,7 @@ use lib.Dec.{eqb}
 use native.Mathlib.Decide.{decLe}
 use native.Mathlib.Nat.{mul-le-mul-right}
 use native.Mathlib.Omega.{arith}
-use Rattle.std.proofs.shelf.Tests.{cases-bool}
+use Rattle.std.proofs.shelf.Tests.{cases-bool, eqb-true}
 use Rattle.std.proofs.shelf.Elements.{all-map}
 use Rattle.std.specs.declared.option.Option.the-variants.{None}
 use Rattle.definitions.specs.declared.loads.Load.{Load}
@@ -20,20 +20,12 @@ use Rattle.definitions.specs.Windows.{W, demand, Overloaded}
 use Rattle.definitions.specs.Methods.{Lawful, limit}
 use Rattle.definitions.specs.Network.{Records, WellFormed, LinkKept, Precedes, Step, first, next, bags, latency, byte-time, occupancy, gap-of, find-port, find-link}
 use Rattle.definitions.specs.Figures.{Figures, Settled, load-of, loads, hops-at, latest-at, departure, still}
-use Rattle.theory.proofs.Members.{all-in, kept-in}
+use Rattle.theory.proofs.Members.{all-in, kept-in, in-map}
 use Rattle.theory.proofs.Lookups.{find-link-known}
 
 -- a gap in ms is a gap in ns
 pub gap-in : (g : ℕ) → In g bags → IsGap (g * 1000000)
-gap-in g (inl e) = inl (omega arith)
-gap-in g (inr (inl e)) = inr (inl (omega arith))
-gap-in g (inr (inr (inl e))) = inr (inr (inl (omega arith)))
-gap-in g (inr (inr (inr (inl e)))) = inr (inr (inr (inl (omega arith))))
-gap-in g (inr (inr (inr (inr (inl e))))) = inr (inr (inr (inr (inl (omega arith)))))
-gap-in g (inr (inr (inr (inr (inr (inl e)))))) = inr (inr (inr (inr (inr (inl (omega arith))))))
-gap-in g (inr (inr (inr (inr (inr (inr (inl e))))))) = inr (inr (inr (inr (inr (inr (inl (omega arith)))))))
-gap-in g (inr (inr (inr (inr (inr (inr (inr (inl e)))))))) = inr (inr (inr (inr (inr (inr (inr (inl (omega arith))))))))
-gap-in g (inr (inr (inr (inr (inr (inr (inr (inr none)))))))) = absurd none
+gap-in g i = in-map (λ n. n * 1000000) bags g i
 
 -- a byte takes one of two times
 pub byte-time-known : (p : Port) → (byte-time p ≡ 80) ⊎ (byte-time p ≡ 800)
@@ -81,6 +73,24 @@ hop-gap-pos r wf h i =
     let known = hop-link-kept r wf h i .gap-known in
     omega arith
 
+-- a hop that is reached within the limit and a latency brings a load
+pub load-within : (r : Records) → WellFormed r → (F : Figures) (h : Hop) → In h (r .hops) → latest-at F h ≤ limit + latency → IsLoad (load-of r F h)
+load-within r wf F h i reached =
+    let l = find-link (r .links) (h .link) in
+    let k = hop-link-kept r wf h i in
+    let (least, most′) = occupancy-range (find-port (r .ports) (h .port)) (l .longest) (omega arith) (k .lengths .longest-most) in
+    record {
+      gap-known = gap-in (l .gap) (k .gap-known);
+      in-range = record { occupied = least; occupancy-most = most′; jitter-most = omega arith };
+    }
+
+-- so that the list of a port is one of loads where all its hops are
+pub loads-within : (r : Records) → WellFormed r → (F : Figures) (p : ℕ)
+    → ((h : Hop) → In h (r .hops) → h .port ≡ p → latest-at F h ≤ limit + latency) → AreLoads (loads r F p)
+loads-within r wf F p reached =
+    all-map IsLoad (load-of r F) (hops-at r p) (all-in (λ h. IsLoad (load-of r F h)) (hops-at r p)
+    (λ h i. let (j, t) = kept-in (λ (h : Hop). eqb (h .port) p) (r .hops) h i in load-within r wf F h j (reached h j (eqb-true (h .port) p t))))
+
 module _ (r : Records) (wf : WellFormed r) (worth : List Load → ℕ) (F : Figures) (s : Settled r worth F) where
   -- no departure passes the limit
   pub departure-most : (h : Hop) → In h (r .hops) → departure F h ≤ limit
@@ -101,22 +111,9 @@ module _ (r : Records) (wf : WellFormed r) (worth : List Load → ℕ) (F : Figu
             omega (arith, s .figures .next-latest h i (k .port) (b .before), departure-most k (b .there))
       ]
 
-  -- each hop brings a load
-  pub load-kept : (h : Hop) → In h (r .hops) → IsLoad (load-of r F h)
-  load-kept h i =
-      let l = find-link (r .links) (h .link) in
-      let k = hop-link-kept r wf h i in
-      let (least, most′) = occupancy-range (find-port (r .ports) (h .port)) (l .longest) (omega arith) (k .lengths .longest-most) in
-      record {
-        gap-known = gap-in (l .gap) (k .gap-known);
-        in-range = record { occupied = least; occupancy-most = most′; jitter-most = omega (arith, latest-most h i) };
-      }
-
   -- so that each port has a list of loads
   pub are-loads : (p : ℕ) → AreLoads (loads r F p)
-  are-loads p =
-      all-map IsLoad (load-of r F) (hops-at r p) (all-in (λ h. IsLoad (load-of r F h)) (hops-at r p)
-      (λ h i. load-kept h (kept-in (λ (h : Hop). eqb (h .port) p) (r .hops) h i .0)))
+  are-loads p = loads-within r wf F p (λ h i at. latest-most h i)
 
   -- which is not overloaded
   pub not-overloaded : (p : Port) → In p (r .ports) → ¬ Overloaded (loads r F (p .number))
