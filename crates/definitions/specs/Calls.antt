@@ -9,7 +9,7 @@
 --   After s c a t     in the state s the call c answers a and leaves the state t
 --   Runs s cs as t    from s the calls cs, one after another, answer as and leave t
 --   nth xs i          the item at the place i, counted from 0; none past the last (of the standard library)
---   Standing s        while figures stand in s, they are settled figures of its records
+--   Standing s        while figures stand in s, the working-out that served succeeds on its records
 
 use Prim.Native.Nat.{ℕ, _≤_}
 use mathlib.Core.Path.{_≡_}
@@ -203,4 +203,4 @@ Runs s (c ∷ cs) [] t = ⊥
 Runs s (c ∷ cs) (a ∷ as′) t = (m : State) × After s c a m × Runs m cs as′ t
 
 abbrev pub Standing : State → Type 0
-Standing s = (v : Served) → s .served ≡ Some v → (F : Figures) × Settled (s .records) (v .method .worth) F
+Standing s = (v : Served) → s .served ≡ Some v → WorksOut (s .records) (v .method .worth) (v .places) settles

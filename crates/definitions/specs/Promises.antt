@@ -136,7 +136,7 @@ pub record Room (pl : Places) (r : Records) : Type 0 where
   pub hops-fit : length (r .hops) ≤ min (pl .hops) most-hops
 
 -- the records that any list of calls leaves are well-formed, in ascending order of keys, and within the tables;
--- while figures stand, they are settled figures of these records
+-- while figures stand, the working-out that served succeeds on these records
 pub record Sound (pl : Places) (t : State) : Type 0 where
   pub same-places : t .places ≡ pl
   pub well-formed : WellFormed (t .records)

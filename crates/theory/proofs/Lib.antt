@@ -22,3 +22,4 @@ pub mod KeptRules
 pub mod SoundRuns
 pub mod SampleTried
 pub mod SampleFrames
+pub mod OneAnswer

@@ -20,7 +20,6 @@ use Rattle.definitions.specs.Entries.{Places, Entry, entry-ground, removal-grou
 use Rattle.definitions.specs.Text.{number-on, number-in, fields, lines, Section, ports, links, hops, Columns, columns-of, heading-in, section-after, is-heading, cell-at, entry-in, row-entry, unreadable, Stage, begun, titled, within, Seen, seen, version-in, read-mark, read-heading, read-row, read-line, read-lines, complete, stray, finished, line-feeds, reading-lines, reading}
 use Rattle.definitions.specs.Calls.{Method, State, Call, Answer, Fits, enter, remove-link, clear, read, work-out, port-figures, hop-figures, delay-of, write, list, count-ports, count-links, count-hops, port-at, link-at, hop-at, opened, changed, worked, DoesOrRefuses, Reads, Does, After, Runs, Standing, is-empty, refused, done, Served}
 use Rattle.definitions.specs.WorkingOut.{Outcome, settles, short, overloaded, ring, past, WorksOut}
-use Rattle.definitions.specs.Figures.{Figures, Settled}
 use Rattle.definitions.specs.Promises.{Room, Sound, Every-run-is-sound}
 use Rattle.theory.proofs.KeptRules.{entry-kept, removal-kept, empty-kept, entry-fits, removal-fits, empty-fits}
 
@@ -168,7 +167,7 @@ worked-sound pl s m n settles o w = record {
   well-formed = o .well-formed;
   room = o .room;
   standing = λ v e. let q : record { method = m; places = n } ≡ v = cc in
-      subst (λ (x : Served). (F : Figures) × Settled (s .records) (x .method .worth) F) q (w .1);
+      subst (λ (x : Served). WorksOut (s .records) (x .method .worth) (x .places) settles) q w;
 }
 worked-sound pl s m n short o w = changed-sound pl s (s .records) o (o .well-formed, o .room)
 worked-sound pl s m n (overloaded p) o w = changed-sound pl s (s .records) o (o .well-formed, o .room)
