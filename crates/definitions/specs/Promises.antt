@@ -1,7 +1,7 @@
 -- Promises: what is proved, one statement for each promise, named by what it says.
 -- Each is the contract of a public function; docs/PROOFS.md has the map.
 
-use Prim.Native.Nat.{ℕ, _+_, _≤_, _<_, min}
+use Prim.Native.Nat.{ℕ, _+_, _^_, _≤_, _<_, min}
 use mathlib.Core.Path.{_≡_}
 use mathlib.Core.Bool.{true, false}
 use mathlib.Core.List.{List, [], _∷_, _++_}
@@ -165,7 +165,7 @@ Standing-figures-hold =
 -- a field reads as a number exactly where it is the writing of that number
 abbrev pub Numbers-read-as-written : Type 0
 Numbers-read-as-written =
-    (most : ℕ) → most ≤ 65535 → (f : List ℕ) (n : ℕ) → (number-in most f ≡ Some n) ↔ ((f ≡ decimal n) × (n ≤ most))
+    (most : ℕ) → most < 2 ^ 64 → (f : List ℕ) (n : ℕ) → (number-in most f ≡ Some n) ↔ ((f ≡ decimal n) × (n ≤ most))
 
 -- no byte of the list is c
 abbrev pub Lacks : ℕ → List ℕ → Type 0

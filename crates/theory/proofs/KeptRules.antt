@@ -23,7 +23,8 @@ use Rattle.definitions.specs.Calls.{Fits, enter}
 use Rattle.definitions.specs.Promises.{Room}
 use Rattle.theory.proofs.Members.{in-some, some-in, in-kept, kept-in}
 use Rattle.theory.proofs.Lookups.{find-port-known}
-use Rattle.theory.proofs.Placed.{some-none, placed-old, in-placed, length-placed, placed-ascends, kept-ascends, length-kept}
+use Rattle.theory.proofs.Sorting.{placed-tells, placed-from, length-placed}
+use Rattle.theory.proofs.Placed.{none-passes, placed-ascends, kept-ascends, length-kept}
 
 -- ## The orders of keys
 
@@ -99,15 +100,15 @@ port-entered pl r p w small g =
     let n = none-met (port-grounds pl r p) g in (
       record {
         ports-ascend = placed-ascends port-before p ports-carry (r .ports)
-            (λ q i. port-after p q (some-none (λ (x : Port). eqb (x .number) (p .number)) (r .ports) (n .1 .0) q i)) (w .ports-ascend);
+            (λ q i. port-after p q (none-passes (λ (x : Port). eqb (x .number) (p .number)) (r .ports) (n .1 .0) q i)) (w .ports-ascend);
         links-ascend = w .links-ascend;
         hops-ascend = w .hops-ascend;
-        ports-kept = λ q i. elim (in-placed port-before p (r .ports) q i) [
+        ports-kept = λ q i. elim (placed-tells port-before p (r .ports) q i) [
           | inl e ↦ subst PortKept (sym e) record { number-most = small; rate-known = rate-in p (not-false (rate-known p) (n .0)) }
           | inr j ↦ w .ports-kept q j
         ];
         links-kept = w .links-kept;
-        hops-kept = λ h i. hop-kept-more r (entered r (port-entry p)) refl (λ q j. placed-old port-before p (r .ports) q j) (λ l j. j) h (w .hops-kept h i);
+        hops-kept = λ h i. hop-kept-more r (entered r (port-entry p)) refl (λ q j. placed-from port-before p (r .ports) q (inr j)) (λ l j. j) h (w .hops-kept h i);
       },
       not-full (length (r .ports)) (pl .ports) most-ports (n .1 .1 .0),
     )
@@ -123,10 +124,10 @@ link-entered pl r l w small g =
       record {
         ports-ascend = w .ports-ascend;
         links-ascend = placed-ascends link-before l links-carry (r .links)
-            (λ m i. link-after l m (some-none (λ (x : VirtualLink). eqb (x .number) (l .number)) (r .links) (n .1 .1 .0) m i)) (w .links-ascend);
+            (λ m i. link-after l m (none-passes (λ (x : VirtualLink). eqb (x .number) (l .number)) (r .links) (n .1 .1 .0) m i)) (w .links-ascend);
         hops-ascend = w .hops-ascend;
         ports-kept = w .ports-kept;
-        links-kept = λ m i. elim (in-placed link-before l (r .links) m i) [
+        links-kept = λ m i. elim (placed-tells link-before l (r .links) m i) [
           | inl e ↦ subst LinkKept (sym e) record {
             number-most = small;
             gap-known = bag-in (l .gap) bags (not-false (gap-known l) (n .0));
@@ -138,7 +139,7 @@ link-entered pl r l w small g =
           }
           | inr j ↦ w .links-kept m j
         ];
-        hops-kept = λ h i. hop-kept-more r (entered r (link-entry l)) refl (λ q j. j) (λ m j. placed-old link-before l (r .links) m j) h (w .hops-kept h i);
+        hops-kept = λ h i. hop-kept-more r (entered r (link-entry l)) refl (λ q j. j) (λ m j. placed-from link-before l (r .links) m (inr j)) h (w .hops-kept h i);
       },
       not-full (length (r .links)) (pl .links) most-links (n .1 .1 .1 .0),
     )
@@ -181,7 +182,7 @@ hop-entered pl r h w g =
     let link = some-in (λ (l : VirtualLink). eqb (l .number) (h .link)) (r .links) (not-false (has-link r (h .link)) (n .0)) in
     let there = some-in (λ (p : Port). eqb (p .number) (h .port)) (r .ports) (not-false (has-port r (h .port)) (n .1 .0)) in
     let port = find-port-known (r .ports) (h .port) (there .0) (there .1) (eqb-true (there .0 .number) (h .port) (there .2)) in
-    let old : (k : Hop) → In k (r .hops) → In k (s .hops) = placed-old hop-before h (r .hops) in
+    let old : (k : Hop) → In k (r .hops) → In k (s .hops) = λ k i. placed-from hop-before h (r .hops) k (inr i) in
     -- a first hop of the link would have been a second one
     let alone : (k : Hop) → In k (r .hops) → k .link ≡ h .link → k .after ≡ None → h .after ≡ None → ⊥ = λ k i l a b.
     elim (and-cases (begins h) (has-first-hop r (h .link)) (n .1 .1 .1 .1 .0)) [
@@ -193,15 +194,15 @@ hop-entered pl r h w g =
         ports-ascend = w .ports-ascend;
         links-ascend = w .links-ascend;
         hops-ascend = placed-ascends hop-before h hops-carry (r .hops)
-            (λ k i. hop-after h k (some-none (λ (x : Hop). eqb (x .link) (h .link) && eqb (x .port) (h .port)) (r .hops) (n .1 .1 .0) k i)) (w .hops-ascend);
+            (λ k i. hop-after h k (none-passes (λ (x : Hop). eqb (x .link) (h .link) && eqb (x .port) (h .port)) (r .hops) (n .1 .1 .0) k i)) (w .hops-ascend);
         ports-kept = w .ports-kept;
         links-kept = w .links-kept;
-        hops-kept = λ k i. elim (in-placed hop-before h (r .hops) k i) [
+        hops-kept = λ k i. elim (placed-tells hop-before h (r .hops) k i) [
           | inl e ↦ subst (HopKept s) (sym e) record {
             link-known = (link .0, link .1, eqb-true (link .0 .number) (h .link) (link .2));
             port-known = (find-port (r .ports) (h .port), port .0, port .1, not-false (suits (find-port (r .ports) (h .port) .kind) (h .after)) (n .1 .1 .1 .0));
             stepped = new-step r s h w old (not-false (has-hop-before r h) (n .1 .1 .1 .1 .1 .0));
-            one-first = λ j t l a b. elim (in-placed hop-before h (r .hops) j t) [
+            one-first = λ j t l a b. elim (placed-tells hop-before h (r .hops) j t) [
               | inl e ↦ e
               | inr u ↦ absurd (alone j u l a b)
             ];
@@ -212,7 +213,7 @@ hop-entered pl r h w g =
                 link-known = kept .link-known;
                 port-known = kept .port-known;
                 stepped = (kept .stepped .0, step-grows r s old k (kept .stepped .0) (kept .stepped .1));
-                one-first = λ x t l a b. elim (in-placed hop-before h (r .hops) x t) [
+                one-first = λ x t l a b. elim (placed-tells hop-before h (r .hops) x t) [
                   | inl e ↦ absurd (alone k j (sym l ∙ ap (λ (y : Hop). y .link) e) b (ap (λ (y : Hop). y .after) (sym e) ∙ a))
                   | inr u ↦ kept .one-first x u l a b
                 ];

@@ -19,6 +19,7 @@ use Rattle.definitions.specs.declared.network.Hop.{Hop}
 use Rattle.definitions.specs.Lists.{In, every, ascending}
 use Rattle.definitions.specs.Network.{Records, WellFormed, LinkKept, Step, first, next, find-port, find-link, port-before, link-before, hop-before, Feeds, direct, through}
 use Rattle.definitions.specs.WorkingOut.{PortOf}
+use Rattle.theory.proofs.Variants.{some-same, no-some}
 use Rattle.theory.proofs.Lookups.{one-of-key}
 
 -- ## Lists
@@ -77,20 +78,12 @@ after-of-in hs asc h i =
 
 -- ## Well-formed records
 
--- what one option holds is one
-pub some-same : (o : Option ℕ) (a b : ℕ) → o ≡ Some a → o ≡ Some b → a ≡ b
-some-same o a b e f = cc
-
--- an option that is none holds nothing
-pub some-none : (o : Option ℕ) (a : ℕ) → o ≡ Some a → o ≡ None → ⊥
-some-none o a e f = let z : _≡_ {A = ℕ} 0 1 = cc in omega arith
-
 -- a hop some steps after the first comes after a hop of its link
 before-in-step : (r : Records) (h : Hop) (n : ℕ) → Step r h n → (q : ℕ) → h .after ≡ Some q
     → (k : Hop) × In k (r .hops) × (k .link ≡ h .link) × (k .port ≡ q)
-before-in-step r h n (first e) q a = absurd (some-none (h .after) q a e)
+before-in-step r h n (first e) q a = no-some (sym a ∙ e)
 before-in-step r h n (next {k = k} p s) q a =
-    (k, p .there, p .same-link, some-same (h .after) (k .port) q (p .before) a)
+    (k, p .there, p .same-link, some-same (k .port) q (sym (p .before) ∙ a))
 
 -- where a hop comes after a port, its link has a hop there
 pub before-hop : (r : Records) → WellFormed r → (h : Hop) → In h (r .hops) → (q : ℕ) → h .after ≡ Some q

@@ -27,7 +27,7 @@ use Rattle.definitions.specs.Text.{reading, listed, port-listed, hop-listed, wr
 use Rattle.definitions.specs.Calls.{Method, Served, State, Call, Answer, Fits, enter, remove-link, clear, read, work-out, port-figures, hop-figures, delay-of, write, list, count-ports, count-links, count-hops, port-at, link-at, hop-at, changed, worked, answered, is-empty, put, or-refused, Told, tell-port, tell-hop, tell-delay, DoesOrRefuses, Reads, Does, After, Standing, refused, done, backlog-depth, earliest-latest-departure, delay-is}
 use Rattle.definitions.specs.Promises.{Agree, Sound, Every-call-comes-to-one, NoFrameLeavesLater, NoPortHoldsMore, ForwardSucceedsNoLarger, Standing-figures-hold}
 use Rattle.theory.proofs.Members.{some-in, kept-in}
-use Rattle.theory.proofs.Placed.{in-placed}
+use Rattle.theory.proofs.Sorting.{sorted-tells}
 use Rattle.theory.proofs.KeptRules.{none-met}
 use Rattle.theory.proofs.Keys.{map-same, hop-port}
 use Rattle.theory.proofs.Unique.{figures-agree, loads-same}
@@ -45,11 +45,6 @@ largest-same f g (x ∷ xs) h = rw (h x (inl refl), largest-same f g xs (λ y i.
 joined-same : {X Y : Type 0} (f g : X → List Y) (xs : List X) → ((x : X) → In x xs → f x ≡ g x) → joined f xs ≡ joined g xs
 joined-same f g [] h = refl
 joined-same f g (x ∷ xs) h = rw (h x (inl refl), joined-same f g xs (λ y i. h y (inr i)))
-
--- what is sorted stands in the list
-in-sorted : {X : Type 0} (lt : X → X → Bool) (xs : List X) (x : X) → In x (sorted lt xs) → In x xs
-in-sorted lt [] x i = i
-in-sorted lt (y ∷ ys) x i = elim (in-placed lt y (sorted lt ys) x i) [ inl e ↦ inl e | inr j ↦ inr (in-sorted lt ys x j) ]
 
 -- a refusal does not look at the answer
 or-same : (o : Option Refusal) (a b : Answer) → (o ≡ None → a ≡ b) → or-refused o a ≡ or-refused o b
@@ -89,7 +84,7 @@ module _ (r : Records) (wf : WellFormed r) (F G : Figures) (a : Agree r F G) whe
   listing-same = rw (
     joined-same (port-listed r F) (port-listed r G) (r .ports) (λ p i. cc (a .backlogs p i, depth-agrees (p .number) (p, i, refl))),
     joined-same (hop-listed F) (hop-listed G) (written-hops r) (λ h i.
-        let j = in-sorted (written-before (r .hops)) (r .hops) h i in
+        let j = sorted-tells (written-before (r .hops)) (r .hops) h i in
         rw (a .earliests h j, a .latests h j, backlog-agrees r F G a (h .port) (hop-port r wf h j))),
   )
 

@@ -12,12 +12,13 @@ use Rattle.definitions.specs.Lists.{In, every, some, ascending}
 use Rattle.definitions.specs.Entries.{placed}
 use Rattle.theory.proofs.Members.{kept-in}
 use Rattle.theory.proofs.Lookups.{in-every}
+use Rattle.theory.proofs.Sorting.{placed-tells}
 
 -- none passes where it is false
-pub some-none : {X : Type 0} (t : X → Bool) (xs : List X) → some t xs ≡ false → (x : X) → In x xs → t x ≡ false
-some-none t [] h x i = absurd i
-some-none t (y ∷ ys) h x (inl e) = ap t e ∙ or-parts (t y) (some t ys) h .0
-some-none t (y ∷ ys) h x (inr i) = some-none t ys (or-parts (t y) (some t ys) h .1) x i
+pub none-passes : {X : Type 0} (t : X → Bool) (xs : List X) → some t xs ≡ false → (x : X) → In x xs → t x ≡ false
+none-passes t [] h x i = absurd i
+none-passes t (y ∷ ys) h x (inl e) = ap t e ∙ or-parts (t y) (some t ys) h .0
+none-passes t (y ∷ ys) h x (inr i) = none-passes t ys (or-parts (t y) (some t ys) h .1) x i
 
 pub every-from : {X : Type 0} (t : X → Bool) (xs : List X) → ((x : X) → In x xs → t x ≡ true) → every t xs ≡ true
 every-from t [] h = refl
@@ -26,37 +27,6 @@ every-from t (y ∷ ys) h = and-from (t y) (every t ys) (h y (inl refl)) (every-
 -- ## One item more
 
 module _ {X : Type 0} (lt : X → X → Bool) (y : X) where
-  pub placed-self : (xs : List X) → In y (placed lt y xs)
-  placed-self [] = inl refl
-  placed-self (x ∷ xs) = elim (lt y x) as (λ b. In y (cond b (y ∷ x ∷ xs) (x ∷ placed lt y xs))) [
-    | true ↦ inl refl
-    | false ↦ inr (placed-self xs)
-  ]
-
-  pub placed-old : (xs : List X) (x : X) → In x xs → In x (placed lt y xs)
-  placed-old [] x i = absurd i
-  placed-old (z ∷ zs) x i = elim (lt y z) as (λ b. In x (cond b (y ∷ z ∷ zs) (z ∷ placed lt y zs))) [
-    | true ↦ inr i
-    | false ↦ elim i [ inl e ↦ inl e | inr j ↦ inr (placed-old zs x j) ]
-  ]
-
-  pub in-placed : (xs : List X) (x : X) → In x (placed lt y xs) → (x ≡ y) ⊎ In x xs
-  in-placed [] x i = i
-  in-placed (z ∷ zs) x i = elim (lt y z) as (λ b. In x (cond b (y ∷ z ∷ zs) (z ∷ placed lt y zs)) → (x ≡ y) ⊎ In x (z ∷ zs)) [
-    | true ↦ λ j. j
-    | false ↦ λ j. elim j [
-      | inl e ↦ inr (inl e)
-      | inr k ↦ elim (in-placed zs x k) [ inl e ↦ inl e | inr l ↦ inr (inr l) ]
-    ]
-  ] i
-
-  pub length-placed : (xs : List X) → length (placed lt y xs) ≡ length xs + 1
-  length-placed [] = refl
-  length-placed (z ∷ zs) = elim (lt y z) as (λ b. length (cond b (y ∷ z ∷ zs) (z ∷ placed lt y zs)) ≡ length (z ∷ zs) + 1) [
-    | true ↦ omega arith
-    | false ↦ omega (arith, length-placed zs)
-  ]
-
   -- an item that is before or after each of an ascending list keeps it ascending
   pub placed-ascends : ((a b c : X) → lt a b ≡ true → lt b c ≡ true → lt a c ≡ true) → (xs : List X)
       → ((x : X) → In x xs → lt y x ≡ false → lt x y ≡ true) → ascending lt xs ≡ true → ascending lt (placed lt y xs) ≡ true
@@ -67,7 +37,7 @@ module _ {X : Type 0} (lt : X → X → Bool) (y : X) where
         | true ↦ λ e. and-from (every (lt y) (z ∷ zs)) (ascending lt (z ∷ zs))
             (and-from (lt y z) (every (lt y) zs) e (every-from (lt y) zs (λ x i. tr y z x e (in-every (lt z) zs (p .0) x i)))) a
         | false ↦ λ e. and-from (every (lt z) (placed lt y zs)) (ascending lt (placed lt y zs))
-            (every-from (lt z) (placed lt y zs) (λ x i. elim (in-placed zs x i) [
+            (every-from (lt z) (placed lt y zs) (λ x i. elim (placed-tells lt y zs x i) [
               | inl q ↦ ap (lt z) q ∙ h z (inl refl) e
               | inr j ↦ in-every (lt z) zs (p .0) x j
             ]))

@@ -12,7 +12,7 @@ use Rattle.std.proofs.shelf.Ways.{tells}
 use Rattle.std.proofs.shelf.Tests.{cases-eq}
 use Rattle.definitions.specs.declared.network.Hop.{Hop}
 use Rattle.definitions.specs.Lists.{In}
-use Rattle.theory.proofs.Options.{no-some, no-none}
+use Rattle.theory.proofs.Variants.{no-some, no-none}
 use Rattle.definitions.specs.Network.{latency}
 use Rattle.definitions.specs.Traffic.{Frame, Traffic, FrameKept, Held, Keeps, end, passes}
 use Rattle.definitions.specs.Sample.{sample, link-10, link-20, hop-10-1, hop-20-2, frame-10, frame-20, sample-traffic}

@@ -15,7 +15,7 @@ use Rattle.definitions.specs.declared.network.Port.{Port}
 use Rattle.definitions.specs.declared.network.VirtualLink.{VirtualLink}
 use Rattle.definitions.specs.declared.network.Hop.{Hop}
 use Rattle.definitions.specs.Lists.{In}
-use Rattle.theory.proofs.Options.{no-some, no-none}
+use Rattle.theory.proofs.Variants.{no-some, no-none}
 use Rattle.definitions.specs.Loads.{IsGap, IsLoad, AreLoads}
 use Rattle.definitions.specs.Windows.{W, horizon, Overloaded}
 use Rattle.definitions.specs.Methods.{most, forward, line, limit}

@@ -3,5 +3,6 @@
 pub mod network_laws;
 pub mod run_laws;
 pub mod sample_laws;
+pub mod text_laws;
 pub mod traffic_laws;
 pub mod window_laws;
