@@ -1,2 +1,2 @@
-pub mod Numbers
-pub mod Report
+pub mod Input
+pub mod Output

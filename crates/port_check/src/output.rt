@@ -1,8 +1,12 @@
 // What is printed of a port.
-ghost use Rattle.port_check.specs.Report.{Tells};
+ghost use Rattle.port_check.specs.Output.{Tells, Reports};
 use definitions::loads::Load;
 use methods::LIMIT;
 use methods::Method;
+use methods::forward_analysis::Forward;
+use methods::forward_analysis::ForwardMethod;
+use methods::network_calculus::Line;
+use methods::network_calculus::LineMethod;
 use methods::overload::HORIZON;
 use std::fmt;
 
@@ -47,8 +51,20 @@ fn write_backlog<W: fmt::Write>(
     }
 }
 
+// What is said of a port with these loads.
+pub fn report_on(rows: &[Load]) -> Report
+    ensures { λ r. ⌜ Reports (now (rows .entry)) r ⌝ }
+{
+    Report {
+        loads: rows.len(),
+        demand: methods::overload::demand(rows),
+        forward: worst_backlog(&Forward, rows),
+        line: worst_backlog(&Line, rows),
+    }
+}
+
 // What a method says of a port's loads.
-pub fn worst_backlog<M: Method>(method: &M, rows: &[Load]) -> Backlog
+fn worst_backlog<M: Method>(method: &M, rows: &[Load]) -> Backlog
     ensures { λ r. ⌜ Tells (M·Method .worth (now (method .entry))) (now (rows .entry)) r ⌝ }
 {
     match method.answer(rows) {

@@ -19,8 +19,9 @@ is-digit d = leb 48 d && leb d 57
 pub past-most : (most n : ℕ) (ds : List ℕ) → most < n → number-on most n ds ≡ None
 past-most most n [] h = rw (lt-leb n most h)
 past-most most n (d ∷ ds) h = elim (leb 48 d && leb d 57) as (λ b. cond b (number-on most (10 * n + (d - 48)) ds) None ≡ None) [
-    | true ↦ past-most most (10 * n + (d - 48)) ds (omega arith)
-    | false ↦ refl ]
+  | true ↦ past-most most (10 * n + (d - 48)) ds (omega arith)
+  | false ↦ refl
+]
 
 module _ (most n : ℕ) (bs : List ℕ) (i : ℕ) (lt : i < length bs) where
   step : number-on most n (drop i bs) ≡ cond (leb 48 (getD bs i 0) && leb (getD bs i 0) 57) (number-on most (10 * n + (getD bs i 0 - 48)) (drop (i + 1) bs)) None
@@ -33,11 +34,12 @@ module _ (most n : ℕ) (bs : List ℕ) (i : ℕ) (lt : i < length bs) where
   -- a byte that is no digit, or a digit past what 64 bits hold, makes no number
   pub digit-none : most < 2 ^ 64 → ((48 ≤ getD bs i 0) × (getD bs i 0 ≤ 57) → 2 ^ 64 ≤ 10 * n + (getD bs i 0 - 48)) → number-on most n (drop i bs) ≡ None
   digit-none small h = step ∙ (elim (leb 48 (getD bs i 0) && leb (getD bs i 0) 57) as (λ b. (leb 48 (getD bs i 0) && leb (getD bs i 0) 57) ≡ b → cond b (number-on most (10 * n + (getD bs i 0 - 48)) (drop (i + 1) bs)) None ≡ None) [
-      | true ↦ λ e.
-          let (a, b) = and-parts (leb 48 (getD bs i 0)) (leb (getD bs i 0) 57) e in
-          let large = h (leb-true 48 (getD bs i 0) a, leb-true (getD bs i 0) 57 b) in
-          past-most most (10 * n + (getD bs i 0 - 48)) (drop (i + 1) bs) (omega arith)
-      | false ↦ λ e. refl ] refl)
+    | true ↦ λ e.
+        let (a, b) = and-parts (leb 48 (getD bs i 0)) (leb (getD bs i 0) 57) e in
+        let large = h (leb-true 48 (getD bs i 0) a, leb-true (getD bs i 0) 57 b) in
+        past-most most (10 * n + (getD bs i 0 - 48)) (drop (i + 1) bs) (omega arith)
+    | false ↦ λ e. refl
+  ] refl)
 
 -- at the end the number is told if it is at most the most
 pub digits-end : (most n : ℕ) (bs : List ℕ) (i : ℕ) → length bs ≤ i → number-on most n (drop i bs) ≡ cond (leb n most) (Some n) None

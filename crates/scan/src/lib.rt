@@ -71,7 +71,10 @@ impl<'a> Fields<'a> {
     pub fn of(line: &'a [u8]) -> Fields<'a>
         ensures { λ r. ⌜ fields-left (r .more) (now (r .rest)) ≡ fields (now (line .entry)) ⌝ }
     {
-        Fields { rest: line, more: true }
+        Fields {
+            rest: line,
+            more: true,
+        }
     }
 
     // The next field, without its comma.

@@ -21,9 +21,9 @@ loop-digit-again c =
 pub returns-then-n-most : need.returns-then-n-most
 returns-then-n-most c =
     sym (c .loop-digit .inv ∙ digits-end (c .args .most) (c .loop-digit .n) (c .args .field .now) (c .loop-digit .digit-index) (c .loop-digit-test .left)
-      ∙ rw (le-leb (c .loop-digit .n) (c .args .most) (c .if-n-most .taken)))
+    ∙ rw (le-leb (c .loop-digit .n) (c .args .most) (c .if-n-most .taken)))
 
 pub returns-else-n-most : need.returns-else-n-most
 returns-else-n-most c =
     sym (c .loop-digit .inv ∙ digits-end (c .args .most) (c .loop-digit .n) (c .args .field .now) (c .loop-digit .digit-index) (c .loop-digit-test .left)
-      ∙ rw (lt-leb (c .loop-digit .n) (c .args .most) (c .if-n-most .left)))
+    ∙ rw (lt-leb (c .loop-digit .n) (c .args .most) (c .if-n-most .left)))
