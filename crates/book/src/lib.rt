@@ -1,0 +1,4 @@
+// A book of one AFDX network: its ports, virtual links and hops, over tables that the caller lends.
+pub mod books;
+pub mod calls;
+pub mod rows;
