@@ -6,6 +6,7 @@
 --   Doing g after b d r  with the ground g, if any, a call on b answers r and leaves d; without one it leaves the records `after`
 --   Shows b F            the rows of the book show the figures F
 --   Made cs as b         the calls cs, which answered as, led to the book b
+--   answer-of r          what a call of the book answers, as an answer of the list of calls
 --   Adds c a b d         to whatever calls led to b, the call c with the answer a is added at d
 
 use Prim.Native.Nat.{ℕ}
@@ -24,7 +25,7 @@ use Rattle.definitions.specs.declared.refusals.Refusal.{Refusal}
 use Rattle.definitions.specs.Network.{Records}
 use Rattle.definitions.specs.Entries.{Places}
 use Rattle.definitions.specs.Figures.{Figures, Settled, depth, earliest-at, latest-at}
-use Rattle.definitions.specs.Calls.{Served, State, Call, Answer, answered, opened, Runs}
+use Rattle.definitions.specs.Calls.{Served, State, Call, Answer, done, refused, opened, Runs}
 use Rattle.register.specs.Tables.{rows, room}
 use Rattle.book.specs.declared.rows.PortRow.{PortRow}
 use Rattle.book.specs.declared.rows.LinkRow.{LinkRow}
@@ -63,6 +64,11 @@ pub record Made (cs : List Call) (as′ : List Answer) (b : Book) : Type 0 where
   pub holds : records b ≡ state .records
   pub stands : b .standing ≡ isSome (state .served)
   pub shows : (v : Served) → state .served ≡ Some v → (F : Figures) × Settled (records b) (v .method .worth) F × Shows b F
+
+-- what a call of the book answers, as an answer of the list of calls
+abbrev pub answer-of : Result (Unit {0}) Refusal → Answer
+answer-of (Ok u) = done
+answer-of (Err e) = refused e
 
 abbrev pub Adds : Call → Answer → Book → Book → Type 0
 Adds c a b d = (cs : List Call) (as′ : List Answer) → Made cs as′ b → Made (cs ++ (c ∷ [])) (as′ ++ (a ∷ [])) d

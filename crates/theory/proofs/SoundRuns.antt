@@ -2,7 +2,7 @@
 use Prim.Native.Nat.{ℕ, _+_, _-_, _*_, _≤_}
 use mathlib.Core.Path.{_≡_, refl, ap, sym, _∙_, subst}
 use mathlib.Core.Bool.{Bool, true, false, cond, _&&_}
-use mathlib.Core.List.{List, [], _∷_}
+use mathlib.Core.List.{List, [], _∷_, _++_}
 use native.Mathlib.Omega.{arith}
 use lib.Dec.{eqb, leb}
 use lib.ListN.{length}
@@ -219,3 +219,11 @@ every-run-is-sound pl cs as′ t h =
       room = empty-fits pl;
       standing = λ v e. let z : _≡_ {A = ℕ} 0 1 = cc in absurd (omega arith);
     }) h
+
+-- one call more
+pub runs-push : (s : State) (cs : List Call) (as′ : List Answer) (m : State) (c : Call) (a : Answer) (t : State)
+    → Runs s cs as′ m → After m c a t → Runs s (cs ++ (c ∷ [])) (as′ ++ (a ∷ [])) t
+runs-push s [] [] m c a t e h = (t, subst (λ (x : State). After x c a t) e h, refl)
+runs-push s [] (b ∷ as′) m c a t e h = absurd e
+runs-push s (d ∷ cs) [] m c a t e h = absurd e
+runs-push s (d ∷ cs) (b ∷ as′) m c a t e h = (e .0, e .1, runs-push (e .0) cs as′ m c a t (e .2) h)
