@@ -1,2 +1,5 @@
 pub mod Adding
 pub mod Entering
+pub mod Runs
+pub mod LinkHops
+pub mod Hops

@@ -2,6 +2,7 @@
 --
 --   records b            the records of the book
 --   places b             how many places its tables have
+--   unfit r h            the first ground that the hop h meets, of all but a full table
 --   Same b d             the book d is as b was: its rows, its places, and whether figures stand
 --   Doing g after b d r  with the ground g, if any, a call on b answers r and leaves d; without one it leaves the records `after`
 --   Shows b F            the rows of the book show the figures F
@@ -23,7 +24,8 @@ use Rattle.definitions.specs.declared.network.Port.{Port}
 use Rattle.definitions.specs.declared.network.Hop.{Hop}
 use Rattle.definitions.specs.declared.refusals.Refusal.{Refusal}
 use Rattle.definitions.specs.Network.{Records}
-use Rattle.definitions.specs.Entries.{Places}
+use lib.ListN.{take}
+use Rattle.definitions.specs.Entries.{Places, first-met, hop-grounds}
 use Rattle.definitions.specs.Figures.{Figures, Settled, depth, earliest-at, latest-at}
 use Rattle.definitions.specs.Calls.{Served, State, Call, Answer, done, refused, opened, Runs}
 use Rattle.register.specs.Tables.{rows, room}
@@ -41,6 +43,10 @@ records b = record {
 
 abbrev pub places : Book → Places
 places b = record { ports = room (b .ports); links = room (b .links); hops = room (b .hops) }
+
+-- the grounds of a hop but the last, that the table is full, do not look at places
+abbrev pub unfit : Records → Hop → Option Refusal
+unfit r h = first-met (take 6 (hop-grounds (record { ports = 0; links = 0; hops = 0 }) r h))
 
 pub record Same (b d : Book) : Type 0 where
   pub ports : rows (d .ports) ≡ rows (b .ports)

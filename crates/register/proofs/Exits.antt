@@ -1,5 +1,5 @@
 -- What each exit of a call on a table leaves.
-use Prim.Native.Nat.{ℕ, _+_, _-_, _≤_, _<_, min}
+use Prim.Native.Nat.{ℕ, zero, suc, _+_, _-_, _≤_, _<_, min}
 use mathlib.Core.Path.{_≡_, refl, sym, ap, subst, _∙_}
 use mathlib.Core.Bool.{Bool, true, false}
 use mathlib.Core.List.{List, [], _∷_, _++_}
@@ -18,14 +18,15 @@ use Rattle.std.specs.declared.option.Option.{Option}
 use Rattle.std.specs.declared.option.Option.the-variants.{Some, None}
 use Rattle.std.specs.declared.result.Result.the-variants.{Ok, Err}
 use Rattle.std.proofs.shelf.Maps.{nth-getD, nth-past}
-use Rattle.std.proofs.shelf.Tests.{cases-lt}
-use Rattle.definitions.specs.Lists.{ascending}
+use Rattle.std.proofs.shelf.Tests.{cases-lt, and-parts}
+use Rattle.std.proofs.shelf.Elements.{all-weaker}
+use Rattle.definitions.specs.Lists.{In, every, ascending}
 use Rattle.register.specs.declared.tables.Table.{Table}
 use Rattle.register.specs.declared.tables.Insertion.the-variants.{Added, Present, Full}
 use Rattle.register.specs.Orders.{ExactlyOne}
-use Rattle.register.specs.Tables.{rows, room, by-key, Ordered, Found, Getting, Kept, Inserting, Replacing, Removing}
+use Rattle.register.specs.Tables.{rows, room, by-key, Ordered, Found, Starts, Getting, Kept, Inserting, Replacing, Removing}
 use Rattle.register.proofs.Rows.{take-count}
-use Rattle.register.proofs.Sorted.{getD-in, placed-is, inserted-ascends, none-there, none-under, set-ascends, without-ascends, before-apart}
+use Rattle.register.proofs.Sorted.{getD-in, before-once, never-itself, placed-is, inserted-ascends, none-there, none-under, set-ascends, without-ascends, before-apart}
 
 -- an unchanged table
 pub kept-same : {R K : Type 0} (lt : K → K → Bool) (key : R → K) (t : Table R) → Kept lt key t t
@@ -42,6 +43,40 @@ module _ {R K : Type 0} (lt : K → K → Bool) (key : R → K) (one : (a b : K)
   -- where no place was found, no record is under the key
   pub got-none : (rs : List R) (k : K) (i : ℕ) → Found lt key rs k (Err i) → Getting key rs k None
   got-none rs k i f = none-under lt one key k rs i (f .1) (f .2)
+
+-- ## Where keys start
+
+module _ {R K : Type 0} (lt : K → K → Bool) (key : R → K) (one : (a b : K) → ExactlyOne (lt a b ≡ true) (a ≡ b) (lt b a ≡ true)) where
+  -- the place at which the key stands
+  starts-at : (k : K) (rs : List R) (i : ℕ) → ascending (by-key lt key) rs ≡ true → i < length rs → ((d : R) → key (getD rs i d) ≡ k)
+      → All (λ x. lt (key x) k ≡ true) (take i rs) × All (λ x. lt (key x) k ≡ false) (drop i rs)
+  starts-at k [] i up l e = absurd (omega arith)
+  starts-at k (y ∷ ys) zero up l e =
+      let (first, rest) = and-parts (every (by-key lt key y) ys) (ascending (by-key lt key) ys) up in
+      (tt, (never-itself lt one (key y) k (e y), all-after ys first))
+    where
+      all-after : (zs : List R) → every (by-key lt key y) zs ≡ true → All (λ x. lt (key x) k ≡ false) zs
+      all-after [] h = tt
+      all-after (z ∷ zs) h =
+          let (a, b) = and-parts (by-key lt key y z) (every (by-key lt key y) zs) h in
+          (subst (λ (q : K). lt (key z) q ≡ false) (e y) (before-once lt one (key y) (key z) a), all-after zs b)
+  starts-at k (y ∷ ys) (suc i) up l e =
+      let (first, rest) = and-parts (every (by-key lt key y) ys) (ascending (by-key lt key) ys) up in
+      let (a, b) = starts-at k ys i rest (omega arith) e in
+      ((subst (λ (q : K). lt (key y) q ≡ true) (e y) (every-at (by-key lt key y) ys first (getD ys i y) (getD-in ys i y (omega arith))), a), b)
+    where
+      every-at : (test : R → Bool) (zs : List R) → every test zs ≡ true → (z : R) → In z zs → test z ≡ true
+      every-at test [] h z j = absurd j
+      every-at test (u ∷ us) h z (inl q) = ap test q ∙ and-parts (test u) (every test us) h .0
+      every-at test (u ∷ us) h z (inr j) = every-at test us (and-parts (test u) (every test us) h .1) z j
+
+  pub starts-found : (k : K) (rs : List R) (i : ℕ) → ascending (by-key lt key) rs ≡ true → Found lt key rs k (Ok i) → Starts lt key rs k i
+  starts-found k rs i up (l, e) =
+      let (a, b) = starts-at k rs i up l e in
+      (omega arith, a, b)
+
+  pub starts-none : (k : K) (rs : List R) (i : ℕ) → Found lt key rs k (Err i) → Starts lt key rs k i
+  starts-none k rs i (le, a, b) = (le, a, all-weaker (λ x. lt k (key x) ≡ true) (λ x. lt (key x) k ≡ false) (λ x h. before-once lt one k (key x) h) (drop i rs) b)
 
 -- ## Inserting
 

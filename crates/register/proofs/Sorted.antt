@@ -95,13 +95,19 @@ module _ {K : Type 0} (lt : K → K → Bool) (one : (a b : K) → ExactlyOne (l
     | inr (inr (p, n, r)) ↦ p h
   ]
 
-  before-once : (a b : K) → lt a b ≡ true → lt b a ≡ false
+  pub before-once : (a b : K) → lt a b ≡ true → lt b a ≡ false
   before-once a b h = elim (cases-bool (lt b a)) [
     | inl t ↦ elim (one a b) [
       | inl (p, n, r) ↦ absurd (r t)
       | inr (inl (p, n, r)) ↦ absurd (p h)
       | inr (inr (p, n, r)) ↦ absurd (p h)
     ]
+    | inr f ↦ f
+  ]
+
+  pub never-itself : (a b : K) → a ≡ b → lt a b ≡ false
+  never-itself a b e = elim (cases-bool (lt a b)) [
+    | inl t ↦ absurd (before-apart a b t e)
     | inr f ↦ f
   ]
 

@@ -6,6 +6,7 @@
 --   Ordered lt key t     the keys of the table ascend, so none stands twice
 --   Found lt key rs k r  where a key stands, or where it would stand
 --   Within n r           a place that was found is one of n, or, if it is not taken, at most the place after them
+--   Starts lt key rs k i the place from which on no key is before k
 --   Getting key rs k r   the record under a key, if there is one
 --   Kept lt key t u      u has the places of t, and is ordered and within its places where t is
 --   Inserting            what inserting a record answers and leaves
@@ -45,6 +46,10 @@ Ordered lt key t = ascending (by-key lt key) (rows t) ≡ true
 abbrev pub Found : {R K : Type 0} → (K → K → Bool) → (R → K) → List R → K → Result ℕ ℕ → Type 0
 Found lt key rs k (Ok i) = (i < length rs) × ((d : _) → key (getD rs i d) ≡ k)
 Found lt key rs k (Err i) = (i ≤ length rs) × All (λ x. lt (key x) k ≡ true) (take i rs) × All (λ x. lt k (key x) ≡ true) (drop i rs)
+
+-- the place from which on no key is before k, and before which all are
+abbrev pub Starts : {R K : Type 0} → (K → K → Bool) → (R → K) → List R → K → ℕ → Type 0
+Starts lt key rs k i = (i ≤ length rs) × All (λ x. lt (key x) k ≡ true) (take i rs) × All (λ x. lt (key x) k ≡ false) (drop i rs)
 
 -- the record under the key, if there is one
 abbrev pub Getting : {R K : Type 0} → (R → K) → List R → K → Option R → Type 0

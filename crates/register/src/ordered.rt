@@ -3,12 +3,12 @@
 ghost use mathlib.Core.Path.{_≡_};
 ghost use mathlib.Core.Bool.{true};
 ghost use mathlib.Core.List.{[]};
-ghost use Prim.Native.Nat.{_≤_};
+ghost use Prim.Native.Nat.{_+_, _≤_};
 ghost use lib.ListN.{length};
 ghost use Rattle.std.specs.shelf.Maps.{nth};
 ghost use Rattle.definitions.specs.Lists.{ascending};
 ghost use Rattle.definitions.specs.Entries.{full};
-ghost use Rattle.register.specs.Tables.{rows, room, by-key, Ordered, Found, Getting, Within, Kept, Inserting, Replacing, Removing};
+ghost use Rattle.register.specs.Tables.{rows, room, by-key, Ordered, Found, Starts, Getting, Within, Kept, Inserting, Replacing, Removing};
 use crate::keys::Key;
 use crate::keys::Keyed;
 use crate::moves::insert_at;
@@ -85,6 +85,16 @@ impl<'a, R: Keyed> Table<'a, R> {
         search(self.all(), key)
     }
 
+    // The place from which on no key is before this one.
+    pub fn start_of(&self, key: R::K) -> usize
+        ensures { λ r. ⌜ (Ordered (K·Key .before) (R·Keyed .key) (now (self .entry)) → Starts (K·Key .before) (R·Keyed .key) (rows (now (self .entry))) key r) ⌝ }
+    {
+        match self.find(key) {
+            Ok(place) => place,
+            Err(place) => place,
+        }
+    }
+
     // The record under the key, if there is one.
     pub fn get(&self, key: R::K) -> Option<R>
         ensures { λ r. ⌜ (Ordered (K·Key .before) (R·Keyed .key) (now (self .entry)) → Getting (R·Keyed .key) (rows (now (self .entry))) key r) ⌝ }
@@ -140,6 +150,16 @@ impl<'a, R: Keyed> Table<'a, R> {
         remove_between(self.places, from, to, count);
         self.len = count - (to - from);
         true
+    }
+
+    // Removes the record at a place.
+    pub fn remove_one(&mut self, place: usize) -> bool
+        ensures { λ r. ⌜ Removing (K·Key .before) (R·Keyed .key) place (place + 1) (now (self .entry)) (now (self .exit)) r ⌝ }
+    {
+        if place >= self.count() {
+            return false;
+        }
+        self.remove_run(place, place + 1)
     }
 
     // Removes all records.
