@@ -7,7 +7,6 @@ ghost use Prim.Native.Nat.{_+_, _≤_};
 ghost use lib.ListN.{length};
 ghost use Rattle.std.specs.shelf.Maps.{nth};
 ghost use Rattle.definitions.specs.Lists.{ascending};
-ghost use Rattle.definitions.specs.Entries.{full};
 ghost use Rattle.register.specs.Tables.{rows, room, by-key, Ordered, Found, Starts, Getting, Within, Kept, Inserting, Replacing, Removing};
 use crate::keys::Key;
 use crate::keys::Keyed;
@@ -68,13 +67,6 @@ impl<'a, R: Keyed> Table<'a, R> {
         ensures { λ r. ⌜ r ≡ nth (rows (now (self .entry))) place ⌝ }
     {
         self.all().get(place).copied()
-    }
-
-    // Whether a table that may hold at most so many records holds as many as it can.
-    pub fn is_full(&self, most: usize) -> bool
-        ensures { λ r. ⌜ r ≡ full (length (rows (now (self .entry)))) (room (now (self .entry))) most ⌝ }
-    {
-        self.count() >= self.places.len().min(most)
     }
 
     // The place of the record under the key, or the place where one would be put in.

@@ -106,10 +106,7 @@ fn pairs_go_by_the_first_part() -> Result<(), Fail> {
 fn a_full_table_takes_no_more() -> Result<(), Fail> {
     let mut places = [numbered(0); 1];
     let mut table = Table::open(&mut places);
-    check(!table.is_full(1))?;
-    check(table.is_full(0))?;
     check_eq(table.insert(numbered(7), 99), Insertion::Added)?;
-    check(table.is_full(2))?;
     check_eq(table.insert(numbered(8), 99), Insertion::Full)?;
     check_eq(table.insert(numbered(7), 99), Insertion::Present)?;
     check(holds(&table, &[7]))?;
