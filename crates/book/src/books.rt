@@ -8,6 +8,7 @@ use crate::rows::PortRow;
 use register::tables::Table;
 
 // Three ordered tables, each within its places, and whether figures stand.
+#[derive(Drop)]
 pub struct Book<'a> {
     pub ports: Table<'a, PortRow>,
     pub links: Table<'a, LinkRow>,
