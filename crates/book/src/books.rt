@@ -10,10 +10,10 @@ use register::tables::Table;
 // Three ordered tables, each within its places, and whether figures stand.
 #[derive(Drop)]
 pub struct Book<'a> {
-    pub ports: Table<'a, PortRow>,
-    pub links: Table<'a, LinkRow>,
-    pub hops: Table<'a, HopRow>,
-    pub standing: bool,
+    pub(crate) ports: Table<'a, PortRow>,
+    pub(crate) links: Table<'a, LinkRow>,
+    pub(crate) hops: Table<'a, HopRow>,
+    pub(crate) standing: bool,
     ghost ports_fit: { ports .len ≤ room ports },
     ghost links_fit: { links .len ≤ room links },
     ghost hops_fit: { hops .len ≤ room hops },

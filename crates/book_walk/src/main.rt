@@ -216,6 +216,12 @@ fn row_of_hop(link: u16, port: u8, after: Option<u8>) -> HopRow {
 #[cfg(test)]
 mod tests {
     use super::*;
+    use definitions::network::HopDebug;
+    use definitions::network::HopPartialEq;
+    use definitions::network::PortDebug;
+    use definitions::network::PortPartialEq;
+    use definitions::refusals::RefusalDebug;
+    use definitions::refusals::RefusalPartialEq;
     use std::test::Fail;
     use std::test::check_eq;
 
