@@ -31,11 +31,11 @@ pub fn largest<M: Measure>(measure: &M, items: &[M::Item]) -> Option<u64>
     ensures told { λ r. ⌜ Told (largest (M·Measure .figure (now (measure .entry))) (now (items .entry))) r ⌝ }
     ensures meant { λ _. ⌜ IsLargest (M·Measure .figure (now (measure .entry))) (now (items .entry)) (largest (M·Measure .figure (now (measure .entry))) (now (items .entry))) ⌝ }
 {
-    let mut so_far = 0u64;
+    let mut most = 0u64;
     for item in items {
-        so_far = so_far.max(measure.of(item)?);
+        most = most.max(measure.of(item)?);
     }
-    Some(so_far)
+    Some(most)
 }
 
 #[cfg(test)]

@@ -8,4 +8,4 @@ use Rattle.folds.proofs.largest.Given as given
 abbrev pub Inv-loop-item : given.InvT-loop-item
 Inv-loop-item g l =
     largest (g .M·Measure .figure (l .measure)) (l .items)
-    ≡ max (l .so-far) (largest (g .M·Measure .figure (l .measure)) (drop (l .item-index) (l .items)))
+    ≡ max (l .most) (largest (g .M·Measure .figure (l .measure)) (drop (l .item-index) (l .items)))
