@@ -6,7 +6,7 @@ ghost use lib.ListN.{length, take, drop, set};
 ghost use Rattle.std.specs.shelf.Lists.{inserted};
 
 // Puts an item in the place of another.
-pub fn write_at<T: Copy>(places: &mut [T], place: usize, item: T)
+pub(crate) fn write_at<T: Copy>(places: &mut [T], place: usize, item: T)
     requires { ⌜ place < length (now places) ⌝ }
     ensures { λ _. ⌜ now (places .exit) ≡ set (now (places .entry)) place item ⌝ }
 {
@@ -14,7 +14,7 @@ pub fn write_at<T: Copy>(places: &mut [T], place: usize, item: T)
 }
 
 // Puts an item in at a place; those from there on move up by one. At the end none moves.
-pub fn insert_at<T: Copy>(places: &mut [T], place: usize, count: usize, item: T)
+pub(crate) fn insert_at<T: Copy>(places: &mut [T], place: usize, count: usize, item: T)
     requires within { ⌜ place ≤ count ⌝ }
     requires room { ⌜ count < length (now places) ⌝ }
     ensures { λ _. ⌜ take (count + 1) (now (places .exit)) ≡ inserted (take count (now (places .entry))) place item ⌝ }
@@ -25,7 +25,7 @@ pub fn insert_at<T: Copy>(places: &mut [T], place: usize, count: usize, item: T)
 }
 
 // Takes out the items from one place to before another; those after them move down.
-pub fn remove_between<T: Copy>(places: &mut [T], from: usize, to: usize, count: usize)
+pub(crate) fn remove_between<T: Copy>(places: &mut [T], from: usize, to: usize, count: usize)
     requires run { ⌜ from ≤ to ⌝ }
     requires within { ⌜ to ≤ count ⌝ }
     requires room { ⌜ count ≤ length (now places) ⌝ }
