@@ -1,4 +1,6 @@
 // A book of one AFDX network: its ports, virtual links and hops, over tables that the caller lends.
+#![tactic(auto)]
+
 pub mod books;
 pub mod calls;
 mod link_runs;

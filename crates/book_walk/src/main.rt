@@ -1,4 +1,6 @@
 // book_walk: a small network is entered, with every refusal on the way, a link is removed, and the book is told and cleared.
+#![tactic(auto)]
+
 use book::books::Book;
 use book::rows::{HopRow, LinkRow, PortRow};
 use definitions::network::{Hop, Port, PortKind, VirtualLink};

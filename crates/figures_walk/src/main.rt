@@ -1,4 +1,6 @@
 // figures_walk: the sample network is entered and worked out by Forward and by Line, and its figures are told.
+#![tactic(auto)]
+
 use book::books::Book;
 use book::rows::{HopRow, LinkRow, PortRow};
 use definitions::loads::Load;

@@ -1,4 +1,6 @@
 // The sum and the largest of a figure over a lent slice, written once for every kind of item.
+#![tactic(auto)]
+
 ghost use Rattle.std.specs.Prelude.{◌≡◌, ℕ};
 ghost use Rattle.definitions.specs.Lists.{total, largest};
 ghost use Rattle.folds.specs.Folds.{Told, IsLargest};

@@ -1,4 +1,6 @@
 // Methods: ways to bound the backlog of an output port from the list of its loads.
+#![tactic(auto)]
+
 ghost use Rattle.std.specs.Prelude.{◌≡◌, ℕ, ◌<◌, ◌≤◌, List, MatchOption};
 ghost use Rattle.definitions.specs.declared.loads.Load.{Load as LoadRow};
 ghost use Rattle.definitions.specs.Methods.{Lawful, Answers, limit};

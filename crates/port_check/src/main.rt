@@ -1,5 +1,7 @@
 // port_check: the worst backlog of one output port.
 // Standard input has one load to a line, `occupancy,gap,jitter` in ns; docs/PORT_CHECK.md has the format.
+#![tactic(auto)]
+
 mod faults;
 mod input;
 mod output;

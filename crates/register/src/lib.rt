@@ -1,4 +1,6 @@
 // An ordered table of records over a slice that the caller lends: no key stands twice, and keys ascend.
+#![tactic(auto)]
+
 pub mod keys;
 mod moves;
 pub mod ordered;

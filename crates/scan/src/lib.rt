@@ -1,4 +1,6 @@
 // Lines, fields and numbers of a text of bytes, as cursors that borrow it.
+#![tactic(auto)]
+
 ghost use Rattle.std.specs.Prelude.{◌≡◌, ◌+◌, ◌-◌, ◌*◌, ◌^◌, ◌<◌, ◌≤◌, [], ◌∷◌, length, take, MatchOption, slice_index};
 ghost use Rattle.definitions.specs.Text.{lines, fields, number_on, number_in};
 ghost use Rattle.definitions.specs.Promises.{Lacks};

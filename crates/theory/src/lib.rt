@@ -1,5 +1,7 @@
 // The laws over the definitions. Each is the contract of a function that does nothing:
 // the crate is built only when the law is proved.
+#![tactic(auto)]
+
 pub mod network_laws;
 pub mod run_laws;
 pub mod sample_laws;

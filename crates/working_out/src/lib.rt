@@ -1,4 +1,6 @@
 // Working out the figures of a network, over the tables of its ports, virtual links and hops.
+#![tactic(auto)]
+
 mod arrivals;
 mod edits;
 mod figuring;

@@ -3,24 +3,24 @@ use Rattle.folds.proofs.Rest.{total_more, total_all}
 use Rattle.folds.proofs.sum.Goals as goal
 
 -- an item's figure that does not fit makes the sum too large
-pub returns-in-err-of : goal.returns-in-err-of
-returns-in-err-of g c =
-    rw c.from-residual.ensures
+pub returns-in_err-of : goal.returns-in_err-of
+returns-in_err-of g c =
+    rw c.from_residual.ensures
     (omega (
       arith,
       c.loop-item.invariant,
-      c.in-err-of.ensures,
+      c.in_err-of.ensures,
       total_more (g.M.Measure.figure c.args.measure.now) c.args.items.now c.loop-item.item-index c.item-item.result c.loop-item-test.true c.item-item.is,
     ))
 
-pub returns-in-err-so-far : goal.returns-in-err-so-far
-returns-in-err-so-far g c =
-    rw c.from-residual-in-err-so-far.ensures
+pub returns-in_err-so_far : goal.returns-in_err-so_far
+returns-in_err-so_far g c =
+    rw c.from_residual-in_err-so_far.ensures
     (omega (
       arith,
       c.loop-item.invariant,
-      c.in-ok-of.ensures,
-      c.in-err-so-far.ensures,
+      c.in_ok-of.ensures,
+      c.in_err-so_far.ensures,
       total_more (g.M.Measure.figure c.args.measure.now) c.args.items.now c.loop-item.item-index c.item-item.result c.loop-item-test.true c.item-item.is,
     ))
 
@@ -29,8 +29,8 @@ loop-item-preserved g c =
     omega (
       arith,
       c.loop-item.invariant,
-      c.in-ok-of.ensures,
-      c.in-ok-so-far.ensures,
+      c.in_ok-of.ensures,
+      c.in_ok-so_far.ensures,
       total_more (g.M.Measure.figure c.args.measure.now) c.args.items.now c.loop-item.item-index c.item-item.result c.loop-item-test.true c.item-item.is,
     )
 

@@ -6,4 +6,4 @@ use Rattle.folds.proofs.sum.Given as goal
 abbrev pub invariant-loop-item : goal.invariant-loop-item
 invariant-loop-item g l =
     total (g.M.Measure.figure l.measure) l.items
-    ≡ l.so-far + total (g.M.Measure.figure l.measure) (drop l.item-index l.items)
+    ≡ l.so_far + total (g.M.Measure.figure l.measure) (drop l.item-index l.items)

@@ -3,17 +3,17 @@ use Rattle.std.proofs.lemmas.Bool.{le-leb, lt-leb}
 use Rattle.scan.proofs.Numerals.{digit_more, digit_none, digits_end}
 use Rattle.scan.proofs.digits.Goals as goal
 
-pub returns-in-err-n : goal.returns-in-err-n
-returns-in-err-n c =
+pub returns-in_err-n : goal.returns-in_err-n
+returns-in_err-n c =
     let lt = c.loop-digit-test.true in
-    c.from-residual.ensures
-    ∙ sym (c.loop-digit.invariant ∙ digit_none c.args.most c.loop-digit.n c.args.field.now c.loop-digit.digit-index lt (omega arith) c.in-err-n.ensures)
+    c.from_residual.ensures
+    ∙ sym (c.loop-digit.invariant ∙ digit_none c.args.most c.loop-digit.n c.args.field.now c.loop-digit.digit-index lt (omega arith) c.in_err-n.ensures)
 
 pub loop-digit-preserved : goal.loop-digit-preserved
 loop-digit-preserved c =
-    let (a, b, e) = c.in-ok-n.ensures in
+    let (a, b, e) = c.in_ok-n.ensures in
     c.loop-digit.invariant
-    ∙ digit_more c.args.most c.loop-digit.n c.args.field.now c.loop-digit.digit-index c.loop-digit-test.true c.in-ok-n.n a b e
+    ∙ digit_more c.args.most c.loop-digit.n c.args.field.now c.loop-digit.digit-index c.loop-digit-test.true c.in_ok-n.n a b e
 
 pub returns-then-n-most : goal.returns-then-n-most
 returns-then-n-most c =

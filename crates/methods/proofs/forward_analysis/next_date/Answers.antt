@@ -4,17 +4,17 @@ use Rattle.theory.proofs.Dates.{WFlat}
 use Rattle.methods.proofs.Nearest.{nearness_most, before_nearest}
 use Rattle.methods.proofs.forward_analysis.next_date.Goals as goal
 
-pub overflow-sub-result : goal.overflow-sub-result
+pub overflow_sub-result : goal.overflow_sub-result
 unfolding horizon
-overflow-sub-result c = omega (arith, c.in-Some.ensures.told, nearness_most c.args.rows.now c.requires.0 c.args.date)
+overflow_sub-result c = omega (arith, c.in-Some.ensures.told, nearness_most c.args.rows.now c.requires.0 c.args.date)
 
-pub overflow-add-result : goal.overflow-add-result
+pub overflow_add-result : goal.overflow_add-result
 unfolding horizon
-overflow-add-result c = omega (arith, c.requires.1)
+overflow_add-result c = omega (arith, c.requires.1)
 
-pub overflow-add-result-in-None : goal.overflow-add-result-in-None
+pub overflow_add-result-in-None : goal.overflow_add-result-in-None
 unfolding horizon
-overflow-add-result-in-None c = omega (arith, c.requires.1)
+overflow_add-result-in-None c = omega (arith, c.requires.1)
 
 pub returns-in-Some : goal.returns-in-Some
 unfolding horizon

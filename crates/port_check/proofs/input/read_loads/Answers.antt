@@ -3,8 +3,8 @@ use Rattle.definitions.specs.Text.{lines}
 use Rattle.port_check.proofs.Lines.{lines_most, ReadOn, read_on_more, read_on_fault, read_on_end}
 use Rattle.port_check.proofs.input.read_loads.Goals as goal
 
-pub overflow-add-line : goal.overflow-add-line
-overflow-add-line c =
+pub overflow_add-line : goal.overflow_add-line
+overflow_add-line c =
     omega (arith, c.loop-row.invariant.0, ap length c.in-Some.ensures, lines_most c.args.text.now)
 
 pub loop-row-preserved : goal.loop-row-preserved
@@ -13,7 +13,7 @@ loop-row-preserved c =
     let old = subst (λ (ls : List (List ℕ)). ReadOn (lines c.args.text.now) c.loop-row.line ls (vec_items c.loop-row.rows)) next c.loop-row.invariant.1 in (
       omega (arith, c.loop-row.invariant.0, ap length next),
       read_on_more (lines c.args.text.now) c.loop-row.line c.in-Some.row.now (lines c.next.new.self.rest.now) (vec_items c.loop-row.rows) old
-          c.in-Ok.load (vec_items c.push.new.self) c.in-ok-push.ensures.items c.in-Ok.ensures,
+          c.in-Ok.load (vec_items c.push.new.self) c.in_ok-push.ensures.items c.in-Ok.ensures,
     )
 
 pub returns-in-Err : goal.returns-in-Err
@@ -24,4 +24,4 @@ returns-in-Err c =
     (record { line = c.loop-row.line + 1; refusal = c.in-Err.refusal }) refl c.in-Err.ensures
 
 pub returns : goal.returns
-returns c = read_on_end (lines c.args.text.now) c.loop-row.line (lines c.loop-row.left.rest.now) (vec_items c.loop-row.rows) c.loop-row.invariant.1 c.in-default.ensures
+returns c = read_on_end (lines c.args.text.now) c.loop-row.line (lines c.loop-row.left.rest.now) (vec_items c.loop-row.rows) c.loop-row.invariant.1 c.in_default.ensures

@@ -6,12 +6,12 @@ use Rattle.working_out.proofs.Edited.{item_there, kept_replaced, length_replaced
 use Rattle.working_out.proofs.Passed.{pass_known, pass_waits}
 use Rattle.working_out.proofs.arrivals.pass.Goals as goal
 
-pub returns-in-default : goal.returns-in-default
-returns-in-default c = record {
+pub returns-in_default : goal.returns-in_default
+returns-in_default c = record {
   ports_kept = kept_same number_before port_key c.args.ports.now;
   hops_kept = kept_same place_before hop_key c.args.hops.now;
   same_count = refl;
-  advances = λ lt. absurd (item_there (rows c.args.hops.now) c.args.place lt c.in-default.ensures);
+  advances = λ lt. absurd (item_there (rows c.args.hops.now) c.args.place lt c.in_default.ensures);
 }
 
 pub returns-in-Some-arrival : goal.returns-in-Some-arrival
@@ -25,9 +25,9 @@ returns-in-Some-arrival c = record {
 
 pub returns-in-None : goal.returns-in-None
 returns-in-None c = record {
-  ports_kept = c.edit-under.ensures.kept;
+  ports_kept = c.edit_under.ensures.kept;
   hops_kept = kept_same place_before hop_key c.args.hops.now;
   same_count = refl;
-  advances = λ lt. pass_waits c.args.ports.now c.args.links.now c.args.hops.now c.args.place c.in-Some.row c.in-Some.ensures c.edit-under.new.table
-      c.in-None.ensures c.edit-under.ensures;
+  advances = λ lt. pass_waits c.args.ports.now c.args.links.now c.args.hops.now c.args.place c.in-Some.row c.in-Some.ensures c.edit_under.new.table
+      c.in-None.ensures c.edit_under.ensures;
 }

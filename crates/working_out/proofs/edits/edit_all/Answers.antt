@@ -2,9 +2,9 @@ use Rattle.std.proofs.Common.{arith}
 use Rattle.working_out.proofs.Edited.{one_changed, all_changed, row_there}
 use Rattle.working_out.proofs.edits.edit_all.Goals as goal
 
-pub returns-in-default : goal.returns-in-default
-returns-in-default g c = absurd (row_there g.K.Key.before g.R.Keyed.key (g.E.Edit.edited c.args.edit.now) c.args.table.now c.loop-place.table c.loop-place.place
-    (omega (arith, c.loop-place-test.true, c.count-place-end.ensures.is)) c.loop-place.invariant c.in-default.ensures)
+pub returns-in_default : goal.returns-in_default
+returns-in_default g c = absurd (row_there g.K.Key.before g.R.Keyed.key (g.E.Edit.edited c.args.edit.now) c.args.table.now c.loop-place.table c.loop-place.place
+    (omega (arith, c.loop-place-test.true, c.count-place-end.ensures.is)) c.loop-place.invariant c.in_default.ensures)
 
 pub loop-place-preserved : goal.loop-place-preserved
 loop-place-preserved g c = one_changed g.K.Key.before g.R.Keyed.key (g.E.Edit.edited c.args.edit.now) c.args.table.now c.loop-place.table c.replace.new.self c.loop-place.place

@@ -3,6 +3,6 @@ use Rattle.working_out.proofs.rings.feeds_itself.Goals as goal
 
 pub returns : goal.returns
 returns c =
-    let (marks, sound) = cleared c.args.hops.now c.args.port c.args.ports.now c.edit-all.new.table c.edit-all.ensures in
-    tried c.args.hops.now c.args.port c.args.ports.now c.edit-all.new.table c.spread-all.new.ports c.is-marked.result
-    marks sound c.spread-all.ensures c.is-marked.ensures
+    let (marks, sound) = cleared c.args.hops.now c.args.port c.args.ports.now c.edit_all.new.table c.edit_all.ensures in
+    tried c.args.hops.now c.args.port c.args.ports.now c.edit_all.new.table c.spread_all.new.ports c.is_marked.result
+    marks sound c.spread_all.ensures c.is_marked.ensures

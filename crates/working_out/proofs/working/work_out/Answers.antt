@@ -7,49 +7,49 @@ use Rattle.working_out.proofs.working.work_out.Goals as goal
 pub returns-then-loads-count : goal.returns-then-loads-count
 returns-then-loads-count g c = record {
   load-places = refl;
-  ports_kept = c.clear-figures.ensures.ports_kept;
-  hops_kept = c.clear-figures.ensures.hops_kept;
+  ports_kept = c.clear_figures.ensures.ports_kept;
+  hops_kept = c.clear_figures.ensures.hops_kept;
   works = λ wf. works_short (g.M.Method.worth c.args.method.now) (g.met.M.Method.lawful c.args.method.now) (length c.args.loads.now) c.args.ports.now c.args.links.now c.args.hops.now wf
-      c.clear-figures.new.ports c.clear-figures.new.hops c.clear-figures.ensures (omega (arith, c.if-loads-count.true, c.count.ensures.is));
+      c.clear_figures.new.ports c.clear_figures.new.hops c.clear_figures.ensures (omega (arith, c.if-loads-count.true, c.count.ensures.is));
 }
 
 pub returns-in-Some : goal.returns-in-Some
 returns-in-Some g c = record {
-  load-places = c.first-overloaded.ensures.places;
-  ports_kept = c.clear-figures.ensures.ports_kept;
-  hops_kept = c.clear-figures.ensures.hops_kept;
+  load-places = c.first_overloaded.ensures.places;
+  ports_kept = c.clear_figures.ensures.ports_kept;
+  hops_kept = c.clear_figures.ensures.hops_kept;
   works = λ wf. works_overloaded (g.M.Method.worth c.args.method.now) (g.met.M.Method.lawful c.args.method.now) (length c.args.loads.now) c.args.ports.now c.args.links.now c.args.hops.now wf
-      c.clear-figures.new.ports c.clear-figures.new.hops c.clear-figures.ensures
+      c.clear_figures.new.ports c.clear_figures.new.hops c.clear_figures.ensures
       _ _ c.all.ensures c.all-2.ensures (omega (arith, c.if-loads-count.false, c.count.ensures.is)) c.in-Some.port c.in-Some.ensures.first;
 }
 
 pub returns-in-Some-judge : goal.returns-in-Some-judge
 returns-in-Some-judge g c = record {
-  load-places = c.settle-all.ensures.places ∙ c.first-overloaded.ensures.places;
-  ports_kept = kept_on number_before port_key c.args.ports.now c.judge.new.ports c.clear-figures-in-Some-judge.new.ports
-      (kept_on number_before port_key c.args.ports.now c.settle-all.new.ports c.judge.new.ports
-      (kept_on number_before port_key c.args.ports.now c.clear-figures.new.ports c.settle-all.new.ports c.clear-figures.ensures.ports_kept c.settle-all.ensures.ports_kept)
+  load-places = c.settle_all.ensures.places ∙ c.first_overloaded.ensures.places;
+  ports_kept = kept_on number_before port_key c.args.ports.now c.judge.new.ports c.clear_figures-in-Some-judge.new.ports
+      (kept_on number_before port_key c.args.ports.now c.settle_all.new.ports c.judge.new.ports
+      (kept_on number_before port_key c.args.ports.now c.clear_figures.new.ports c.settle_all.new.ports c.clear_figures.ensures.ports_kept c.settle_all.ensures.ports_kept)
       c.judge.ensures.kept)
-      c.clear-figures-in-Some-judge.ensures.ports_kept;
-  hops_kept = kept_on place_before hop_key c.args.hops.now c.settle-all.new.hops c.clear-figures-in-Some-judge.new.hops
-      (kept_on place_before hop_key c.args.hops.now c.clear-figures.new.hops c.settle-all.new.hops c.clear-figures.ensures.hops_kept c.settle-all.ensures.hops_kept)
-      c.clear-figures-in-Some-judge.ensures.hops_kept;
+      c.clear_figures-in-Some-judge.ensures.ports_kept;
+  hops_kept = kept_on place_before hop_key c.args.hops.now c.settle_all.new.hops c.clear_figures-in-Some-judge.new.hops
+      (kept_on place_before hop_key c.args.hops.now c.clear_figures.new.hops c.settle_all.new.hops c.clear_figures.ensures.hops_kept c.settle_all.ensures.hops_kept)
+      c.clear_figures-in-Some-judge.ensures.hops_kept;
   works = λ wf. works_refused (g.M.Method.worth c.args.method.now) (g.met.M.Method.lawful c.args.method.now) (length c.args.loads.now) c.args.ports.now c.args.links.now c.args.hops.now wf
-      c.clear-figures.new.ports c.clear-figures.new.hops c.clear-figures.ensures
-      _ _ c.all.ensures c.all-2.ensures (omega (arith, c.if-loads-count.false, c.count.ensures.is)) c.in-default.ensures.first
-      c.settle-all.new.ports c.judge.new.ports c.settle-all.new.hops _ c.settle-all.ensures.stuck _ c.all-3.ensures c.in-Some-judge.ensures.judged
-      c.in-Some-judge.refusal refl c.clear-figures-in-Some-judge.new.ports c.clear-figures-in-Some-judge.new.hops c.clear-figures-in-Some-judge.ensures;
+      c.clear_figures.new.ports c.clear_figures.new.hops c.clear_figures.ensures
+      _ _ c.all.ensures c.all-2.ensures (omega (arith, c.if-loads-count.false, c.count.ensures.is)) c.in_default.ensures.first
+      c.settle_all.new.ports c.judge.new.ports c.settle_all.new.hops _ c.settle_all.ensures.stuck _ c.all-3.ensures c.in-Some-judge.ensures.judged
+      c.in-Some-judge.refusal refl c.clear_figures-in-Some-judge.new.ports c.clear_figures-in-Some-judge.new.hops c.clear_figures-in-Some-judge.ensures;
 }
 
 pub returns : goal.returns
 returns g c = record {
-  load-places = c.settle-all.ensures.places ∙ c.first-overloaded.ensures.places;
-  ports_kept = kept_on number_before port_key c.args.ports.now c.settle-all.new.ports c.judge.new.ports
-      (kept_on number_before port_key c.args.ports.now c.clear-figures.new.ports c.settle-all.new.ports c.clear-figures.ensures.ports_kept c.settle-all.ensures.ports_kept)
+  load-places = c.settle_all.ensures.places ∙ c.first_overloaded.ensures.places;
+  ports_kept = kept_on number_before port_key c.args.ports.now c.settle_all.new.ports c.judge.new.ports
+      (kept_on number_before port_key c.args.ports.now c.clear_figures.new.ports c.settle_all.new.ports c.clear_figures.ensures.ports_kept c.settle_all.ensures.ports_kept)
       c.judge.ensures.kept;
-  hops_kept = kept_on place_before hop_key c.args.hops.now c.clear-figures.new.hops c.settle-all.new.hops c.clear-figures.ensures.hops_kept c.settle-all.ensures.hops_kept;
+  hops_kept = kept_on place_before hop_key c.args.hops.now c.clear_figures.new.hops c.settle_all.new.hops c.clear_figures.ensures.hops_kept c.settle_all.ensures.hops_kept;
   works = λ wf. works_settled (g.M.Method.worth c.args.method.now) (g.met.M.Method.lawful c.args.method.now) (length c.args.loads.now) c.args.ports.now c.args.links.now c.args.hops.now wf
-      c.clear-figures.new.ports c.clear-figures.new.hops c.clear-figures.ensures
-      _ _ c.all.ensures c.all-2.ensures (omega (arith, c.if-loads-count.false, c.count.ensures.is)) c.in-default.ensures.first
-      c.settle-all.new.ports c.judge.new.ports c.settle-all.new.hops _ c.settle-all.ensures.stuck _ c.all-3.ensures c.in-default-judge.ensures.judged refl;
+      c.clear_figures.new.ports c.clear_figures.new.hops c.clear_figures.ensures
+      _ _ c.all.ensures c.all-2.ensures (omega (arith, c.if-loads-count.false, c.count.ensures.is)) c.in_default.ensures.first
+      c.settle_all.new.ports c.judge.new.ports c.settle_all.new.hops _ c.settle_all.ensures.stuck _ c.all-3.ensures c.in_default-judge.ensures.judged refl;
 }

@@ -4,6 +4,6 @@ use Rattle.book.proofs.books.Book.enter_hop.Goals as goal
 
 pub returns : goal.returns
 returns c = record {
-  outcome = c.add-hop.ensures;
-  run = entry_adds (hop_entry c.args.hop) tt c.args.self.now _ c.add-hop.result c.add-hop.ensures;
+  outcome = c.add_hop.ensures;
+  run = entry_adds (hop_entry c.args.hop) tt c.args.self.now _ c.add_hop.result c.add_hop.ensures;
 }

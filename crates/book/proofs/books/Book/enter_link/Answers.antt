@@ -5,6 +5,6 @@ use Rattle.book.proofs.books.Book.enter_link.Goals as goal
 
 pub returns : goal.returns
 returns c = record {
-  outcome = c.add-link.ensures;
-  run = entry_adds (link_entry c.args.link) (omega arith) c.args.self.now _ c.add-link.result c.add-link.ensures;
+  outcome = c.add_link.ensures;
+  run = entry_adds (link_entry c.args.link) (omega arith) c.args.self.now _ c.add_link.result c.add_link.ensures;
 }

@@ -9,8 +9,8 @@ use Rattle.book.proofs.books.Book.has_first_hop.Goals as goal
 
 pub returns : goal.returns
 returns c =
-    let st = c.start-of-from.ensures c.args.self.now.hops_ascend in
-    let re = subst (λ (rs : List HopRow). RunEnd rs c.args.link c.start-of-from.result c.run-end-to.result) c.all-rows.ensures c.run-end-to.ensures in
-    c.has-first.ensures
-    ∙ ap (λ (rs : List HopRow). some row_begins (take (c.run-end-to.result - c.start-of-from.result) (drop c.start-of-from.result rs))) c.all-rows.ensures
-    ∙ sym (first_in_run (rows c.args.self.now.hops) c.args.link c.start-of-from.result c.run-end-to.result c.args.self.now.hops_ascend st re)
+    let st = c.start_of-from.ensures c.args.self.now.hops_ascend in
+    let re = subst (λ (rs : List HopRow). RunEnd rs c.args.link c.start_of-from.result c.run_end-to.result) c.all-rows.ensures c.run_end-to.ensures in
+    c.has_first.ensures
+    ∙ ap (λ (rs : List HopRow). some row_begins (take (c.run_end-to.result - c.start_of-from.result) (drop c.start_of-from.result rs))) c.all-rows.ensures
+    ∙ sym (first_in_run (rows c.args.self.now.hops) c.args.link c.start_of-from.result c.run_end-to.result c.args.self.now.hops_ascend st re)

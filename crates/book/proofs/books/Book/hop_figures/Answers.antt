@@ -3,9 +3,9 @@ use Rattle.book.proofs.books.Book.hop_figures.Goals as goal
 
 pub returns : goal.returns
 returns c =
-    let is = c.tell-hop.ensures in
+    let is = c.tell_hop.ensures in
     record {
       outcome = is;
-      run = hop_adds c.args.self.now c.args.link c.args.port c.tell-hop.result is;
-      promise = hop_promised c.args.self.now c.args.link c.args.port c.tell-hop.result is;
+      run = hop_adds c.args.self.now c.args.link c.args.port c.tell_hop.result is;
+      promise = hop_promised c.args.self.now c.args.link c.args.port c.tell_hop.result is;
     }

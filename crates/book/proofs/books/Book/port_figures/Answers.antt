@@ -3,9 +3,9 @@ use Rattle.book.proofs.books.Book.port_figures.Goals as goal
 
 pub returns : goal.returns
 returns c =
-    let is = c.tell-port.ensures in
+    let is = c.tell_port.ensures in
     record {
       outcome = is;
-      run = port_adds c.args.self.now c.args.port c.tell-port.result is;
-      promise = port_promised c.args.self.now c.args.port c.tell-port.result is;
+      run = port_adds c.args.self.now c.args.port c.tell_port.result is;
+      promise = port_promised c.args.self.now c.args.port c.tell_port.result is;
     }

@@ -5,22 +5,22 @@ use Rattle.book.proofs.books.Book.tell_hop.Goals as goal
 pub returns-in-Some : goal.returns-in-Some
 returns-in-Some c = refused_first 2 (hop_question c.args.self.now c.args.link c.args.port) c.in-Some.refusal _ c.in-Some.ensures
 
-pub returns-in-default-get : goal.returns-in-default-get
-returns-in-default-get c =
-    let (up, link) = link_is_known c.args.self.now c.args.link c.in-default.ensures in
-    hop_without_port c.args.self.now up c.args.port c.args.link link (c.in-default-get.ensures c.args.self.now.ports_ascend)
+pub returns-in_default-get : goal.returns-in_default-get
+returns-in_default-get c =
+    let (up, link) = link_is_known c.args.self.now c.args.link c.in_default.ensures in
+    hop_without_port c.args.self.now up c.args.port c.args.link link (c.in_default-get.ensures c.args.self.now.ports_ascend)
 
 pub returns-in-Some-get-2 : goal.returns-in-Some-get-2
 returns-in-Some-get-2 c =
-    let (up, link) = link_is_known c.args.self.now c.args.link c.in-default.ensures in
+    let (up, link) = link_is_known c.args.self.now c.args.link c.in_default.ensures in
     hop_is_told c.args.self.now up c.args.port c.args.link link
     c.in-Some-get.at (c.in-Some-get.ensures c.args.self.now.ports_ascend)
     c.in-Some-get-2.row (c.in-Some-get-2.ensures c.args.self.now.hops_ascend)
-    c.saturating-add.result c.saturating-add.ensures
+    c.saturating_add.result c.saturating_add.ensures
 
 pub returns-in-None : goal.returns-in-None
 returns-in-None c =
-    let (up, link) = link_is_known c.args.self.now c.args.link c.in-default.ensures in
+    let (up, link) = link_is_known c.args.self.now c.args.link c.in_default.ensures in
     no_hop_is_there c.args.self.now up c.args.port c.args.link link
     c.in-Some-get.at (c.in-Some-get.ensures c.args.self.now.ports_ascend)
     (c.in-None.ensures c.args.self.now.hops_ascend)

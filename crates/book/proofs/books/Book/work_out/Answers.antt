@@ -7,14 +7,14 @@ use Rattle.book.proofs.books.Book.work_out.Goals as goal
 pub returns : goal.returns
 returns g c =
     let b = c.args.self.now in
-    let did : WorksBook (g.M.Method.worth c.args.method.now) (length c.args.loads.now) b _ c.work-out-worked.result = record {
-      tables = same_places _ _ _ _ _ _ c.work-out-worked.ensures.ports_kept.same_room refl c.work-out-worked.ensures.hops_kept.same_room;
+    let did : WorksBook (g.M.Method.worth c.args.method.now) (length c.args.loads.now) b _ c.work_out-worked.result = record {
+      tables = same_places _ _ _ _ _ _ c.work_out-worked.ensures.ports_kept.same_room refl c.work_out-worked.ensures.hops_kept.same_room;
       links = refl;
-      stands = c.is-ok-self.ensures.value;
-      works = c.work-out-worked.ensures.works;
+      stands = c.is_ok-self.ensures.value;
+      works = c.work_out-worked.ensures.works;
     } in
     record {
       outcome = did;
-      load-places = c.work-out-worked.ensures.load-places;
-      run = λ law cs as' m. made_working (g.M.Method.worth c.args.method.now) law (length c.args.loads.now) b _ c.work-out-worked.result did cs as' m;
+      load-places = c.work_out-worked.ensures.load-places;
+      run = λ law cs as' m. made_working (g.M.Method.worth c.args.method.now) law (length c.args.loads.now) b _ c.work_out-worked.result did cs as' m;
     }

@@ -3,10 +3,10 @@ use borrow.Rule.Slice.Mut.{set_vals}
 use Rattle.register.proofs.Exits.{present, full_up, added, kept_same}
 use Rattle.register.proofs.tables.Table.insert.Goals as goal
 
-pub returns-in-default : goal.returns-in-default
-returns-in-default g c = record {
+pub returns-in_default : goal.returns-in_default
+returns-in_default g c = record {
   inserts = present g.R.K.Key.before g.R.Keyed.key g.met.R.K.Key.trichotomy c.args.most c.args.record c.key.result c.key.ensures c.args.self.now
-      c.in-default.field-0 c.in-default.ensures.found;
+      c.in_default.field-0 c.in_default.ensures.found;
   kept = kept_same _ _ _;
 }
 
@@ -21,6 +21,6 @@ pub returns : goal.returns
 returns g c =
     let a = added g.R.K.Key.before g.R.Keyed.key g.met.R.K.Key.trichotomy c.args.most c.args.record c.key.result c.key.ensures c.args.self.now
     c.in-Err.place c.count-count.result c.count-count.ensures.is c.in-Err.ensures.found
-    (record { places = set_vals c.insert-at.new.places c.args.self.now.places; len = c.count-count.result + 1 })
-    (omega arith) c.insert-at.auto.places refl c.insert-at.ensures in
+    (record { places = set_vals c.insert_at.new.places c.args.self.now.places; len = c.count-count.result + 1 })
+    (omega arith) c.insert_at.auto.places refl c.insert_at.ensures in
     record { inserts = a.0; kept = a.1 }

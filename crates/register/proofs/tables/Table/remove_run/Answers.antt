@@ -6,4 +6,4 @@ pub returns : goal.returns
 returns g c =
     run_removed g.R.K.Key.before g.R.Keyed.key c.args.self.now _ c.args.from c.args.to c.count-count.result
     c.count-count.ensures.is c.count-count.ensures.bound (omega arith) (omega arith)
-    c.remove-between.auto.places refl c.remove-between.ensures
+    c.remove_between.auto.places refl c.remove_between.ensures

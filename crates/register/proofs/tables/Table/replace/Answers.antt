@@ -2,20 +2,20 @@ use Rattle.std.proofs.Common.{refl, arith, length-take}
 use Rattle.register.proofs.Exits.{some_within, no_record, other_key, replaced}
 use Rattle.register.proofs.tables.Table.replace.Goals as goal
 
-pub returns-in-default : goal.returns-in-default
-returns-in-default g c = no_record g.R.K.Key.before g.R.Keyed.key c.args.self.now c.args.place c.args.record c.in-default.ensures
+pub returns-in_default : goal.returns-in_default
+returns-in_default g c = no_record g.R.K.Key.before g.R.Keyed.key c.args.self.now c.args.place c.args.record c.in_default.ensures
 
-pub write-at-requires : goal.write-at-requires
-write-at-requires g c =
+pub write_at-requires : goal.write_at-requires
+write_at-requires g c =
     let l = some_within _ c.args.place c.in-Some.old c.in-Some.ensures in
     omega (arith, length-take c.args.self.now.len c.args.self.now.places.now)
 
 pub returns-in-Equal : goal.returns-in-Equal
 returns-in-Equal g c =
     replaced g.R.K.Key.before g.R.Keyed.key c.args.self.now c.args.place c.args.record c.in-Some.old c.key.result c.key-2.result
-    c.in-Some.ensures c.key.ensures c.key-2.ensures c.in-Equal.ensures _ c.write-at.auto.places refl c.write-at.ensures
+    c.in-Some.ensures c.key.ensures c.key-2.ensures c.in-Equal.ensures _ c.write_at.auto.places refl c.write_at.ensures
 
-pub returns-in-default-against : goal.returns-in-default-against
-returns-in-default-against g c =
+pub returns-in_default-against : goal.returns-in_default-against
+returns-in_default-against g c =
     other_key g.R.K.Key.before g.R.Keyed.key c.args.self.now c.args.place c.args.record c.in-Some.old c.key.result c.key-2.result
-    c.in-Some.ensures c.key.ensures c.key-2.ensures g.met.R.K.Key.trichotomy c.against.result c.against.ensures c.in-default-against.not-Equal
+    c.in-Some.ensures c.key.ensures c.key-2.ensures g.met.R.K.Key.trichotomy c.against.result c.against.ensures c.in_default-against.not-Equal
