@@ -6,7 +6,7 @@ use Rattle.working_out.proofs.working.work_out.Goals as goal
 
 pub returns-then-loads-count : goal.returns-then-loads-count
 returns-then-loads-count g c = record {
-  load-places = refl;
+  load_places = refl;
   ports_kept = c.clear_figures.ensures.ports_kept;
   hops_kept = c.clear_figures.ensures.hops_kept;
   works = λ wf. works_short (g.M.Method.worth c.args.method.now) (g.met.M.Method.lawful c.args.method.now) (length c.args.loads.now) c.args.ports.now c.args.links.now c.args.hops.now wf
@@ -15,7 +15,7 @@ returns-then-loads-count g c = record {
 
 pub returns-in-Some : goal.returns-in-Some
 returns-in-Some g c = record {
-  load-places = c.first_overloaded.ensures.places;
+  load_places = c.first_overloaded.ensures.places;
   ports_kept = c.clear_figures.ensures.ports_kept;
   hops_kept = c.clear_figures.ensures.hops_kept;
   works = λ wf. works_overloaded (g.M.Method.worth c.args.method.now) (g.met.M.Method.lawful c.args.method.now) (length c.args.loads.now) c.args.ports.now c.args.links.now c.args.hops.now wf
@@ -25,7 +25,7 @@ returns-in-Some g c = record {
 
 pub returns-in-Some-judge : goal.returns-in-Some-judge
 returns-in-Some-judge g c = record {
-  load-places = c.settle_all.ensures.places ∙ c.first_overloaded.ensures.places;
+  load_places = c.settle_all.ensures.places ∙ c.first_overloaded.ensures.places;
   ports_kept = kept_on number_before port_key c.args.ports.now c.judge.new.ports c.clear_figures-in-Some-judge.new.ports
       (kept_on number_before port_key c.args.ports.now c.settle_all.new.ports c.judge.new.ports
       (kept_on number_before port_key c.args.ports.now c.clear_figures.new.ports c.settle_all.new.ports c.clear_figures.ensures.ports_kept c.settle_all.ensures.ports_kept)
@@ -43,7 +43,7 @@ returns-in-Some-judge g c = record {
 
 pub returns : goal.returns
 returns g c = record {
-  load-places = c.settle_all.ensures.places ∙ c.first_overloaded.ensures.places;
+  load_places = c.settle_all.ensures.places ∙ c.first_overloaded.ensures.places;
   ports_kept = kept_on number_before port_key c.args.ports.now c.settle_all.new.ports c.judge.new.ports
       (kept_on number_before port_key c.args.ports.now c.clear_figures.new.ports c.settle_all.new.ports c.clear_figures.ensures.ports_kept c.settle_all.ensures.ports_kept)
       c.judge.ensures.kept;
