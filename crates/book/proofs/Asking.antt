@@ -20,6 +20,7 @@ use Rattle.register.specs.Tables.{rows}
 use Rattle.theory.proofs.Members.{some_in, kept_in}
 use Rattle.theory.proofs.KeptRules.{none_met}
 use Rattle.theory.proofs.Keys.{hop_port}
+use Rattle.theory.proofs.Smaller.{departure_smaller}
 use Rattle.theory.proofs.Unique.{figures_agree}
 use Rattle.theory.proofs.Outcomes.{backlog_agrees, departure_agrees}
 use Rattle.theory.proofs.SoundRuns.{every_run_is_sound}
@@ -241,7 +242,7 @@ hop_promised b l p r is cs as' m v e x y z ok =
           omega (arith, last, departure_there F h l p link port, subst (λ n. end net T f n ≤ f.release + departure F h) port (now.no_later T k f j h i (link ∙ sym at)).0);
       by_forward = λ more le.
           let (works, smaller) = now.by_forward more le in
-          (works, λ G g. omega (arith, last, departure_there F h l p link port, departure_there G h l p link port, (smaller G g).departures h i));
+          (works, λ G g. omega (arith, last, departure_there F h l p link port, departure_there G h l p link port, departure_smaller net now.well_formed v.method.worth v.method.lawful F now.settled G g h i));
     }
   where
     never : (f : Refusal) → ¬ (earliest_latest_departure x y z ≡ refused f)

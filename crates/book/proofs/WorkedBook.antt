@@ -60,7 +60,8 @@ module _ (worth : List Load → ℕ) (law : Lawful worth) (n : ℕ) (b d : Book)
         let v-is : record { method = record { worth = worth; lawful = law }; places = n } ≡ v = some_same _ _ _ refl e in (
           F,
           subst (λ (x : Served). Settled (records d) x.method.worth F) v-is (subst (λ (r : Records). Settled r worth F) (sym same) settled),
-          subst (λ (r : Records). Shown r F (rows d.ports) (rows d.hops)) (sym same) shown,
+          let at-d : Shown (records d) F (rows d.ports) (rows d.hops) = subst (λ (r : Records). Shown r F (rows d.ports) (rows d.hops)) (sym same) shown in
+              record { ports = at-d.ports; hops = at-d.hops },
         )
     shows_on short z v e = none_some v e
     shows_on (overloaded p) z v e = none_some v e

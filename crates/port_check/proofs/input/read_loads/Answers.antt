@@ -13,7 +13,7 @@ loop-row-preserved c =
     let old = subst (λ (ls : List (List ℕ)). ReadOn (lines c.args.text.now) c.loop-row.line ls (vec_items c.loop-row.rows)) next c.loop-row.invariant.1 in (
       omega (arith, c.loop-row.invariant.0, ap length next),
       read_on_more (lines c.args.text.now) c.loop-row.line c.in-Some.row.now (lines c.next.new.self.rest.now) (vec_items c.loop-row.rows) old
-          c.in-Ok.load (vec_items c.push.new.self) c.in_ok-push.ensures.items c.in-Ok.ensures,
+          c.in-Ok.load (vec_items c.push.new.self) c.in_ok-push-in-Ok.ensures.items c.in-Ok.ensures,
     )
 
 pub returns-in-Err : goal.returns-in-Err

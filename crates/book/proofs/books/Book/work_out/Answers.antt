@@ -15,6 +15,6 @@ returns g c =
     } in
     record {
       outcome = did;
-      load-places = c.work_out-worked.ensures.load-places;
+      load_places = c.work_out-worked.ensures.load_places;
       run = λ law cs as' m. made_working (g.M.Method.worth c.args.method.now) law (length c.args.loads.now) b _ c.work_out-worked.result did cs as' m;
     }
