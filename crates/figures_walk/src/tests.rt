@@ -68,8 +68,23 @@ fn a_full_port_going_on(rt: HostRuntime) {
     assert_eq!(rt; book.hop_figures(1, 9), Err(Refusal::NoHopThere));
     assert_eq!(rt; book.delay(2), Err(Refusal::LinkUnknown));
     assert_eq!(rt; book.delay(5), Err(Refusal::NoHops));
+}
+
+#[test]
+fn a_load_table_one_place_short(rt: HostRuntime) {
+    let mut ports = [PortRow::new(port(0, PortKind::End, 0)); 2];
+    let mut links = [LinkRow {
+        link: link(0, 0, 0, 0),
+    }; 1];
+    let mut hops = [HopRow::new(hop(0, 0, None)); 2];
+    let mut loads = [no_load(); 2];
+    let mut short = [no_load(); 1];
+    let mut book = Book::open(&mut ports, &mut links, &mut hops);
+    assert_eq!(rt; enter_chain(&mut book, 1, 64, 1_250, &[1, 2]), Ok(()));
+    assert_eq!(rt; book.work_out(&Forward, &mut loads), Ok(()));
+    assert_eq!(rt; book.delay(1), Ok(2_964_800));
     assert_eq!(rt;
-        book.work_out(&Forward, &mut loads[..1]),
+        book.work_out(&Forward, &mut short),
         Err(Refusal::LoadTableShort)
     );
     assert_eq!(rt; book.delay(1), Err(Refusal::NoFigures));
