@@ -10,7 +10,7 @@
 --   Past r F p           a figure of the port exceeds the limit
 --   Settled r worth F    F are figures that a successful working-out leaves
 
-use Rattle.std.specs.Prelude.{◌≡◌, ℕ, ◌+◌, ◌-◌, ◌*◌, ◌/◌, ◌<◌, Bool, ◌⊎◌, List, [], ◌∷◌, map, Some, None, filter, nat_eq}
+use Rattle.std.specs.Prelude.{◌≡◌, ℕ, ◌+◌, ◌-◌, ◌/◌, ◌<◌, ◌⊎◌, List, map, Some, None, filter, nat_eq}
 use Rattle.definitions.specs.declared.loads.Load.{Load}
 use Rattle.definitions.specs.declared.network.Port.{Port}
 use Rattle.definitions.specs.declared.network.Hop.{Hop}

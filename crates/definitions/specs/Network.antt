@@ -17,7 +17,7 @@
 --   InRing r p         p feeds itself
 --   most_ports, most_links, most_hops   what a book holds at most
 
-use Rattle.std.specs.Prelude.{◌≡◌, ℕ, suc, ◌+◌, ◌*◌, ◌≤◌, Bool, true, false, cond, ◌&&◌, ◌||◌, ◌⊎◌, List, [], ◌∷◌, Some, None, Option, ◌==◌, nat_lt}
+use Rattle.std.specs.Prelude.{◌≡◌, ℕ, suc, ◌*◌, ◌≤◌, Bool, true, false, cond, ◌&&◌, ◌||◌, ◌⊎◌, List, [], ◌∷◌, Some, None, Option, ◌==◌, nat_lt}
 use Rattle.definitions.specs.declared.network.PortKind.{PortKind}
 use Rattle.definitions.specs.declared.network.PortKind.TheVariants.{End, Switch}
 use Rattle.definitions.specs.declared.network.Port.{Port}

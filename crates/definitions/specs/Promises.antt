@@ -16,7 +16,7 @@ use Rattle.definitions.specs.Entries.{Places}
 use Rattle.definitions.specs.Figures.{Figures, FiguresOf, Settled, OverloadedAt, earliest_at, latest_at, departure, delay, depth}
 use Rattle.definitions.specs.Traffic.{Frame, Traffic, Keeps, end, unsent, held_count}
 use Rattle.definitions.specs.WorkingOut.{Outcome, settles, ring, NoPort, WorksOut}
-use Rattle.definitions.specs.Calls.{Method, Served, State, Call, Answer, opened, Fits, After, Runs, Standing}
+use Rattle.definitions.specs.Calls.{Served, State, Call, Answer, opened, Fits, After, Runs, Standing}
 use Rattle.definitions.specs.Sample.{sample, sample_text, reordered_text, sample_listing, sample_figures, hop_10_3, hop_20_3, frame_10, frame_20, sample_traffic}
 use Rattle.definitions.specs.Text.{line_feed, comma, lines, fields, finished, stray, line_of, number_in, reading, written, listed, Section, Columns, columns_of, section_after, heading_in, is_heading, cell_at, Stage, begun, titled, within, ports}
 

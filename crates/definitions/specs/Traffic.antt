@@ -12,7 +12,6 @@
 
 use Rattle.std.specs.Prelude.{◌≡◌, ℕ, ◌+◌, ◌-◌, ◌<◌, ◌≤◌, min, Bool, true, cond, ◌&&◌, ◌⊎◌, List, [], ◌∷◌, Some, None, ◌==◌, nat_le, nat_lt}
 use Rattle.std.specs.List.{AllByRecursion as All}
-use Rattle.definitions.specs.declared.network.Port.{Port}
 use Rattle.definitions.specs.declared.network.VirtualLink.{VirtualLink}
 use Rattle.definitions.specs.declared.network.Hop.{Hop}
 use Rattle.definitions.specs.Lists.{In, total, some}

@@ -1,5 +1,5 @@
 -- One turn of Forward's loop: the worst before a date, the workload at that date, and the next date.
-use Rattle.std.proofs.Common.{◌≡◌, ℕ, suc, ◌+◌, ◌-◌, ◌^◌, ◌<◌, ◌≤◌, max, ◌⊎◌, List, sym, refl, ap, ◌∙◌, inl, inr, arith}
+use Rattle.std.proofs.Common.{◌≡◌, ℕ, suc, ◌-◌, ◌^◌, ◌<◌, ◌≤◌, max, ◌⊎◌, List, refl, ap, arith}
 use native.Mathlib.Decide.{dec_le}
 use Rattle.definitions.specs.declared.loads.Load.{Load}
 use Rattle.definitions.specs.Loads.{AreLoads}

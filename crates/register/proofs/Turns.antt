@@ -1,5 +1,5 @@
 -- What turning a part of a list by some places leaves.
-use Rattle.std.proofs.Common.{◌≡◌, ℕ, ◌+◌, ◌-◌, ◌<◌, ◌≤◌, List, [], ◌∷◌, ◌++◌, length, take, drop, set, sym, refl, ap, ◌∙◌, arith, length-set}
+use Rattle.std.proofs.Common.{◌≡◌, ℕ, ◌+◌, ◌-◌, ◌<◌, ◌≤◌, List, [], ◌∷◌, ◌++◌, length, take, drop, set, sym, ap, ◌∙◌, arith, length-set}
 use borrow.Rule.Slice.PartMut.{put_mid}
 use Rattle.std.specs.List.{between, insert}
 use Rattle.std.proofs.lemmas.List.{take_more_set, drop-append-le, length-take-le, length-drop, length_push, take_at, drop_at, take-take, take-set-le}

@@ -1,8 +1,7 @@
 -- Cutting a text at a byte, and what that makes of its lines and fields.
 use Rattle.std.proofs.Common.{◌≡◌, ℕ, ◌+◌, ◌-◌, ◌<◌, ◌≤◌, Bool, true, false, List, [], ◌∷◌, ◌++◌, length, get_or, take, drop, sym, refl, ap, ◌∙◌, subst, arith}
 use native.Mathlib.Nat.{sub-zero}
-use Rattle.std.specs.List.{AllByRecursion as All}
-use Rattle.std.proofs.lemmas.List.{take-append-drop, take_rest, take_all, drop_more, drop_all, append-nil}
+use Rattle.std.proofs.lemmas.List.{take-append-drop, take_rest, take_all, drop_more, drop_all}
 use Rattle.std.proofs.lemmas.Bool.{ne_eqb}
 use Rattle.definitions.specs.Text.{line_feed, comma, lines, fields, onto}
 use Rattle.definitions.specs.Promises.{Lacks}

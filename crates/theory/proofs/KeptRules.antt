@@ -1,15 +1,15 @@
 -- Entering a record that meets no ground, and removing a link with its hops, keep the rules of the records.
-use Rattle.std.proofs.Common.{◌≡◌, ℕ, suc, ◌+◌, ◌<◌, ◌≤◌, min, Bool, true, false, cond, not, ◌&&◌, ◌||◌, eqb, ltb, leb, ◌⊎◌, List, [], ◌∷◌, length, Some, None, filter, Option, sym, refl, ap, ◌∙◌, subst, inl, inr, arith}
+use Rattle.std.proofs.Common.{◌≡◌, ℕ, suc, ◌+◌, ◌≤◌, min, Bool, true, false, cond, not, ◌&&◌, eqb, leb, ◌⊎◌, List, [], ◌∷◌, length, Some, None, Option, sym, refl, ap, ◌∙◌, subst, inl, inr, arith}
 use Rattle.std.specs.List.{AllByRecursion as All}
 use Rattle.std.proofs.lemmas.Bool.Decides.{nat_tests}
-use Rattle.std.proofs.lemmas.Bool.{and_parts, and_from, and_cases, or_cases, both_ways, not-false, not-true, eqb-true, eq-eqb, ne_eqb, leb-true, leb-false, eqb-false}
+use Rattle.std.proofs.lemmas.Bool.{and_parts, and_from, and_cases, or_cases, both_ways, not-false, eqb-true, eq-eqb, leb-true, leb-false}
 use Rattle.definitions.specs.declared.network.Port.{Port}
 use Rattle.definitions.specs.declared.network.VirtualLink.{VirtualLink}
 use Rattle.definitions.specs.declared.network.Hop.{Hop}
 use Rattle.definitions.specs.declared.refusals.Refusal.{Refusal}
-use Rattle.definitions.specs.Lists.{In, some, ascending}
-use Rattle.definitions.specs.Network.{Records, find_port, port_before, link_before, hop_before, bags, suits, PortKept, LinkKept, HopKept, Precedes, Step, first, next, WellFormed, most_ports, most_links, most_hops}
-use Rattle.definitions.specs.Entries.{Places, Entry, port_entry, link_entry, hop_entry, first_met, port_grounds, link_grounds, hop_grounds, entry_ground, removal_ground, entered, removed, no_records, placed, rate_known, gap_known, lengths_kept, has_port, has_link, has_hop, has_first_hop, has_hop_before, begins, full}
+use Rattle.definitions.specs.Lists.{In, some}
+use Rattle.definitions.specs.Network.{Records, find_port, port_before, link_before, hop_before, bags, suits, PortKept, LinkKept, HopKept, Step, first, next, WellFormed, most_ports, most_links, most_hops}
+use Rattle.definitions.specs.Entries.{Places, Entry, port_entry, link_entry, hop_entry, first_met, port_grounds, link_grounds, hop_grounds, entry_ground, entered, removed, no_records, rate_known, gap_known, lengths_kept, has_port, has_link, has_hop, has_first_hop, has_hop_before, begins, full}
 use Rattle.definitions.specs.Calls.{Fits, enter}
 use Rattle.definitions.specs.Promises.{Room}
 use Rattle.theory.proofs.Members.{in_some, some_in, in_kept, kept_in}

@@ -1,15 +1,13 @@
 -- Keys: what the lists of well-formed records hold, found by their keys.
 --
 --   after_of hs l p    what the hop of link l at port p comes after, or none where there is no such hop
-use Rattle.std.proofs.Common.{◌≡◌, ℕ, Bool, true, false, cond, ◌&&◌, eqb, ◌⊎◌, List, [], ◌∷◌, map, Some, None, filter, Option, sym, refl, ap, ◌∙◌, subst, inl, inr, arith}
-use Rattle.std.proofs.lemmas.Bool.{both_ways, and_parts, and_from, cond_both, eqb-true, eqb-false, eq-eqb, le-ltb}
+use Rattle.std.proofs.Common.{◌≡◌, ℕ, Bool, true, false, cond, ◌&&◌, eqb, ◌⊎◌, List, [], ◌∷◌, map, Some, None, Option, sym, refl, ap, ◌∙◌, subst, inl, inr, arith}
+use Rattle.std.proofs.lemmas.Bool.{both_ways, and_parts, and_from, eqb-true, eq-eqb}
 use Rattle.std.proofs.lemmas.Bool.Decides.{nat_tests}
 use Rattle.std.specs.List.{AllByRecursion as All}
-use Rattle.definitions.specs.declared.network.Port.{Port}
-use Rattle.definitions.specs.declared.network.VirtualLink.{VirtualLink}
 use Rattle.definitions.specs.declared.network.Hop.{Hop}
-use Rattle.definitions.specs.Lists.{In, every, ascending}
-use Rattle.definitions.specs.Network.{Records, WellFormed, LinkKept, Step, first, next, find_port, find_link, port_before, link_before, hop_before, Feeds, direct, through}
+use Rattle.definitions.specs.Lists.{In, ascending}
+use Rattle.definitions.specs.Network.{Records, WellFormed, Step, first, next, hop_before, Feeds, direct, through}
 use Rattle.definitions.specs.WorkingOut.{PortOf}
 use Rattle.theory.proofs.Variants.{some_same, no_some}
 use Rattle.theory.proofs.Lookups.{one_of_key}

@@ -3,7 +3,7 @@ use Rattle.std.proofs.Common.{◌≡◌, ℕ, zero, suc, ◌+◌, ◌-◌, ◌<�
 use native.Mathlib.Decide.{dec_le, dec_lt}
 use Rattle.definitions.specs.declared.loads.Load.{Load}
 use Rattle.definitions.specs.Loads.{AreLoads}
-use Rattle.definitions.specs.Windows.{horizon, W, demand, Overloaded, Largest}
+use Rattle.definitions.specs.Windows.{horizon, W, demand, Overloaded}
 use Rattle.definitions.specs.Methods.{most, forward}
 use Rattle.definitions.specs.Promises.{OverloadIsUnboundedness, OverloadPassesEveryBound, ForwardIsTheLargest, NoLoadsNoBacklog, ForwardIsTheLeastLawful}
 use Rattle.theory.proofs.Windows.{horizon_pos, WStep}

@@ -13,7 +13,7 @@ use Rattle.definitions.specs.declared.network.Hop.{Hop}
 use Rattle.definitions.specs.Lists.{In}
 use Rattle.definitions.specs.Windows.{W, window}
 use Rattle.definitions.specs.Methods.{Lawful}
-use Rattle.definitions.specs.Network.{Records, WellFormed, occupancy, find_port, find_link}
+use Rattle.definitions.specs.Network.{Records, WellFormed, find_port, find_link}
 use Rattle.definitions.specs.Figures.{Figures, Settled, load_of, loads, hops_at, hops_of, latest_at, earliest_at, departure, depth}
 use Rattle.definitions.specs.Traffic.{Frame, Traffic, Keeps, frame_time, end, passes, held_one, held_count}
 use Rattle.definitions.specs.Promises.{NoFrameEverLeavesLater, NoPortEverHoldsMore}

@@ -1,24 +1,23 @@
 -- Every call has exactly one answer and leaves exactly one state.
-use Rattle.std.proofs.Common.{◌≡◌, ℕ, ◌+◌, ◌≤◌, Bool, true, false, cond, not, ◌&&◌, eqb, ◌⊎◌, List, [], ◌∷◌, ◌++◌, map, length, Some, None, Ok, Err, filter, Option, Result, sym, refl, ap, ◌∙◌, subst, inl, inr, arith}
+use Rattle.std.proofs.Common.{◌≡◌, ℕ, true, false, not, ◌&&◌, eqb, List, [], ◌∷◌, length, Some, None, Ok, Err, Option, Result, sym, refl, ap, ◌∙◌, subst, inl, inr}
 use Rattle.std.specs.List.{flat_map}
 use Rattle.std.proofs.lemmas.Bool.{and_parts, eqb-true, not-false}
-use Rattle.definitions.specs.declared.loads.Load.{Load}
 use Rattle.definitions.specs.declared.network.Port.{Port}
 use Rattle.definitions.specs.declared.network.Hop.{Hop}
 use Rattle.definitions.specs.declared.refusals.Refusal.{Refusal}
 use Rattle.definitions.specs.declared.refusals.Refusal.TheVariants.{LinkUnknown, PortUnknown, NoHopThere, NoHops, NoFigures, BookNotEmpty}
-use Rattle.definitions.specs.Lists.{In, total, largest, some}
+use Rattle.definitions.specs.Lists.{In, largest}
 use Rattle.definitions.specs.Network.{Records, WellFormed}
-use Rattle.definitions.specs.Entries.{Places, has_port, has_link, has_hop, first_met, entry_ground, removal_ground, entered, removed, no_records, placed}
-use Rattle.definitions.specs.Figures.{Figures, FiguresOf, Settled, earliest_at, latest_at, departure, delay, depth, loads, load_of, hops_at, hops_of}
-use Rattle.definitions.specs.WorkingOut.{Outcome, refusal_of, WorksOut, PortOf}
-use Rattle.definitions.specs.Text.{reading, listed, port_listed, hop_listed, written_hops, written_before, sorted}
-use Rattle.definitions.specs.Calls.{Method, Served, State, Call, Answer, Fits, enter, remove_link, clear, read, work_out, port_figures, hop_figures, delay_of, write, list, count_ports, count_links, count_hops, port_at, link_at, hop_at, changed, worked, answered, is_empty, put, or_refused, Told, tell_port, tell_hop, tell_delay, DoesOrRefuses, Reads, Does, After, Standing, refused, done, backlog_depth, earliest_latest_departure, delay_is}
-use Rattle.definitions.specs.Promises.{Agree, Sound, EveryCallComesToOne, NoFrameLeavesLater, NoPortHoldsMore, ForwardSucceedsNoLarger, StandingFiguresHold}
+use Rattle.definitions.specs.Entries.{Places, has_port, has_link, has_hop, first_met, entry_ground, removal_ground, entered, removed, no_records}
+use Rattle.definitions.specs.Figures.{Figures, Settled, departure, depth, hops_of}
+use Rattle.definitions.specs.WorkingOut.{refusal_of, PortOf}
+use Rattle.definitions.specs.Text.{reading, listed, port_listed, hop_listed, written_hops, written_before}
+use Rattle.definitions.specs.Calls.{Method, Served, State, Call, Answer, enter, remove_link, clear, read, work_out, port_figures, hop_figures, delay_of, write, list, count_ports, count_links, count_hops, port_at, link_at, hop_at, changed, worked, answered, is_empty, put, or_refused, Told, tell_port, tell_hop, tell_delay, DoesOrRefuses, Reads, Does, Standing, refused, done, delay_is}
+use Rattle.definitions.specs.Promises.{Agree, Sound, EveryCallComesToOne, StandingFiguresHold}
 use Rattle.theory.proofs.Members.{some_in, kept_in}
 use Rattle.theory.proofs.Sorting.{sorted_tells}
 use Rattle.theory.proofs.KeptRules.{none_met}
-use Rattle.theory.proofs.Keys.{map_same, hop_port}
+use Rattle.theory.proofs.Keys.{hop_port}
 use Rattle.theory.proofs.Unique.{figures_agree, loads_same}
 use Rattle.theory.proofs.Outcomes.{backlog_agrees, departure_agrees, settled_agrees, a_working_out_comes_to_one}
 use Rattle.theory.proofs.OnTime.{no_frame_leaves_later, no_port_holds_more}

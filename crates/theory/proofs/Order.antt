@@ -1,7 +1,7 @@
 -- Order: without a ring the ports are ranked by how many feed them, and claims about ports are shown along the rank.
-use Rattle.std.proofs.Common.{ℕ, zero, suc, ◌<◌, ◌≤◌, List, [], ◌∷◌, sym, refl, ap, subst, inl, inr, arith}
+use Rattle.std.proofs.Common.{ℕ, zero, suc, ◌<◌, ◌≤◌, sym, refl, subst, arith}
 use Rattle.definitions.specs.declared.network.Port.{Port}
-use Rattle.definitions.specs.Lists.{In, total, largest}
+use Rattle.definitions.specs.Lists.{total}
 use Rattle.definitions.specs.Network.{Records, WellFormed, Feeds, direct, through, InRing}
 use Rattle.definitions.specs.WorkingOut.{NoPort}
 use Rattle.definitions.specs.Promises.{WithoutARingPortsAreRanked}

@@ -1,5 +1,5 @@
 -- The two frames of the sample keep its gaps and lengths.
-use Rattle.std.proofs.Common.{◌≡◌, ℕ, ◌+◌, ◌<◌, ◌≤◌, Bool, true, false, eqb, ◌⊎◌, List, [], ◌∷◌, Some, None, sym, refl, ap, ◌∙◌, subst, inl, inr, arith}
+use Rattle.std.proofs.Common.{◌≡◌, ℕ, ◌+◌, ◌<◌, ◌≤◌, true, ◌⊎◌, Some, None, sym, refl, subst, inl, inr, arith}
 use native.Mathlib.Decide.{dec_lt}
 use Rattle.std.proofs.lemmas.Bool.Decides.{nat_tests}
 use Rattle.std.proofs.lemmas.Bool.{cases_eq}
@@ -7,7 +7,7 @@ use Rattle.definitions.specs.declared.network.Hop.{Hop}
 use Rattle.definitions.specs.Lists.{In}
 use Rattle.theory.proofs.Variants.{no_some, no_none}
 use Rattle.definitions.specs.Network.{latency}
-use Rattle.definitions.specs.Traffic.{Frame, Traffic, FrameKept, Held, Keeps, end, passes}
+use Rattle.definitions.specs.Traffic.{Frame, FrameKept, Held, Keeps, end, passes}
 use Rattle.definitions.specs.Sample.{sample, link_10, link_20, hop_10_1, hop_20_2, frame_10, frame_20, sample_traffic}
 use Rattle.definitions.specs.Promises.{SampleTraffic}
 use Rattle.theory.proofs.SampleTried.{each_hop}

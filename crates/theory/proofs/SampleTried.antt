@@ -1,19 +1,16 @@
 -- The sample network, tried on the definitions.
-use Rattle.std.proofs.Common.{◌≡◌, ℕ, suc, ◌+◌, ◌-◌, ◌<◌, ◌≤◌, max, Bool, true, false, eqb, ◌⊎◌, List, [], ◌∷◌, Some, None, sym, refl, ap, ◌∙◌, subst, inl, inr, arith}
-use native.Mathlib.Decide.{dec_lt}
+use Rattle.std.proofs.Common.{◌≡◌, ℕ, suc, ◌+◌, ◌<◌, ◌≤◌, List, Some, None, sym, refl, subst, inl, inr, arith}
 use Rattle.std.specs.Fmt.{digits}
-use Rattle.std.proofs.lemmas.Bool.Decides.{nat_tests}
 use Rattle.definitions.specs.declared.loads.Load.{Load}
 use Rattle.definitions.specs.declared.network.Port.{Port}
-use Rattle.definitions.specs.declared.network.VirtualLink.{VirtualLink}
 use Rattle.definitions.specs.declared.network.Hop.{Hop}
 use Rattle.definitions.specs.Lists.{In}
 use Rattle.theory.proofs.Variants.{no_some, no_none}
-use Rattle.definitions.specs.Loads.{IsGap, IsLoad, AreLoads}
-use Rattle.definitions.specs.Windows.{W, horizon, Overloaded}
-use Rattle.definitions.specs.Methods.{most, forward, line, limit}
-use Rattle.definitions.specs.Network.{latency, occupancy, find_port, find_link, PortKept, LinkKept, HopKept, Precedes, Step, first, next, WellFormed, Feeds, FeedsNext, direct, through, InRing}
-use Rattle.definitions.specs.Figures.{Figures, FiguresOf, earliest_at, latest_at, loads, OverloadedAt, Past, departure, Settled, still}
+use Rattle.definitions.specs.Loads.{IsLoad, AreLoads}
+use Rattle.definitions.specs.Windows.{W, horizon}
+use Rattle.definitions.specs.Methods.{most, forward, line}
+use Rattle.definitions.specs.Network.{latency, occupancy, find_port, find_link, PortKept, LinkKept, HopKept, first, next, WellFormed, Feeds, direct, through}
+use Rattle.definitions.specs.Figures.{earliest_at, latest_at, loads, OverloadedAt, departure, Settled}
 use Rattle.definitions.specs.Sample.{sample, port_1, port_2, port_3, link_10, link_20, hop_10_1, hop_10_3, hop_20_2, hop_20_3, sample_figures}
 use Rattle.definitions.specs.Promises.{SampleFigures}
 use Rattle.theory.proofs.Dates.{Before, WFlat, most_flat, most_suc', forward_at_idle}

@@ -1,17 +1,15 @@
 -- Smaller: where a lawful method settles, Forward settles too, with no larger figures.
-use Rattle.std.proofs.Common.{◌≡◌, ℕ, ◌+◌, ◌-◌, ◌*◌, ◌/◌, ◌≤◌, eqb, List, [], ◌∷◌, map, refl, inl, inr, arith}
+use Rattle.std.proofs.Common.{◌≡◌, ℕ, ◌+◌, ◌-◌, ◌/◌, ◌≤◌, eqb, List, [], ◌∷◌, map, refl, inl, inr, arith}
 use native.Mathlib.Decide.{dec_le}
-use Rattle.std.proofs.lemmas.Bool.{cond_both}
 use Rattle.definitions.specs.declared.loads.Load.{Load}
 use Rattle.definitions.specs.declared.network.Port.{Port}
-use Rattle.definitions.specs.declared.network.VirtualLink.{VirtualLink}
 use Rattle.definitions.specs.declared.network.Hop.{Hop}
 use Rattle.definitions.specs.Lists.{In, total}
-use Rattle.definitions.specs.Loads.{IsGap, IsLoad, AreLoads}
-use Rattle.definitions.specs.Windows.{demand, Overloaded}
+use Rattle.definitions.specs.Loads.{AreLoads}
+use Rattle.definitions.specs.Windows.{Overloaded}
 use Rattle.definitions.specs.Methods.{Lawful, limit, forward}
-use Rattle.definitions.specs.Network.{Records, WellFormed, LengthsKept, bags, occupancy, find_port, find_link}
-use Rattle.definitions.specs.Figures.{Figures, FiguresOf, earliest_at, latest_at, load_of, hops_at, hops_of, loads, departure, still, Past, Settled}
+use Rattle.definitions.specs.Network.{Records, WellFormed}
+use Rattle.definitions.specs.Figures.{Figures, FiguresOf, earliest_at, latest_at, load_of, hops_at, hops_of, loads, departure, Past, Settled}
 use Rattle.definitions.specs.Promises.{NoLarger, ForwardIsNeverLarger}
 use Rattle.theory.proofs.Quotients.{div_mono}
 use Rattle.theory.proofs.Windows.{load_pos, Calmer, WCalmer, demand_calmer}

@@ -3,7 +3,7 @@
 --   Strict lt          lt is the test of a strict order
 --   Ascends lt xs      each item comes before (lt) all that follow it
 --   Same xs ys         the same items stand in both
-use Rattle.std.proofs.Common.{◌≡◌, ℕ, suc, ◌<◌, ◌≤◌, Bool, true, false, cond, ◌||◌, ◌⊎◌, List, [], ◌∷◌, length, sym, refl, ap, ◌∙◌, inl, inr, arith}
+use Rattle.std.proofs.Common.{◌≡◌, ℕ, suc, ◌<◌, ◌≤◌, Bool, true, false, cond, ◌⊎◌, List, [], ◌∷◌, length, sym, refl, ap, ◌∙◌, inl, inr, arith}
 use Rattle.std.proofs.lemmas.Bool.{both_ways, and_parts}
 use Rattle.definitions.specs.Lists.{In, every, some, ascending}
 use Rattle.definitions.specs.Entries.{placed}

@@ -1,5 +1,5 @@
 -- Every list of calls leaves sound records.
-use Rattle.std.proofs.Common.{◌≡◌, ℕ, ◌+◌, ◌-◌, ◌*◌, ◌≤◌, Bool, true, false, cond, ◌&&◌, eqb, leb, List, [], ◌∷◌, ◌++◌, length, Some, None, Ok, Err, Option, Result, unwrap_or, sym, refl, ap, ◌∙◌, subst, arith}
+use Rattle.std.proofs.Common.{◌≡◌, ℕ, ◌+◌, ◌-◌, ◌*◌, ◌≤◌, true, false, cond, ◌&&◌, eqb, leb, List, [], ◌∷◌, ◌++◌, length, Some, None, Ok, Err, Option, Result, unwrap_or, sym, refl, subst, arith}
 use Rattle.std.proofs.lemmas.Bool.{leb-true}
 use Rattle.definitions.specs.declared.refusals.Refusal.{Refusal}
 use Rattle.definitions.specs.declared.refusals.Refusal.TheVariants.{HeadingWrong, VersionUnknown, MarkMissing, EntryRefused, FieldUnreadable, FieldCountWrong, ByteForbidden, LineUnfinished, BookNotEmpty}
@@ -7,7 +7,7 @@ use Rattle.definitions.specs.Refusals.{number}
 use Rattle.definitions.specs.Network.{Records, WellFormed}
 use Rattle.definitions.specs.Entries.{Places, Entry, entry_ground, removal_ground, entered, removed, no_records}
 use Rattle.definitions.specs.Text.{number_on, number_in, fields, lines, Section, ports, links, hops, Columns, columns_of, heading_in, section_after, is_heading, cell_at, entry_in, row_entry, unreadable, Stage, begun, titled, within, Seen, seen, version_in, read_mark, read_heading, read_row, read_line, read_lines, complete, stray, finished, line_feeds, reading_lines, reading}
-use Rattle.definitions.specs.Calls.{Method, State, Call, Answer, Fits, enter, remove_link, clear, read, work_out, port_figures, hop_figures, delay_of, write, list, count_ports, count_links, count_hops, port_at, link_at, hop_at, opened, changed, worked, DoesOrRefuses, Reads, Does, After, Runs, Standing, is_empty, refused, done, Served}
+use Rattle.definitions.specs.Calls.{Method, State, Call, Answer, Fits, enter, remove_link, clear, read, work_out, port_figures, hop_figures, delay_of, write, list, count_ports, count_links, count_hops, port_at, link_at, hop_at, opened, changed, worked, DoesOrRefuses, Reads, Does, After, Runs, is_empty, refused, Served}
 use Rattle.definitions.specs.WorkingOut.{Outcome, settles, short, overloaded, ring, past, WorksOut}
 use Rattle.definitions.specs.Promises.{Room, Sound, EveryRunIsSound}
 use Rattle.theory.proofs.KeptRules.{entry_kept, removal_kept, empty_kept, entry_fits, removal_fits, empty_fits}

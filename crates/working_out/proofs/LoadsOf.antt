@@ -1,5 +1,5 @@
 -- The loads that are gathered are those of the figures that the rows show.
-use Rattle.std.proofs.Common.{◌≡◌, ◌-◌, eqb, List, [], ◌∷◌, map, filter, sym, refl, ap, ◌∙◌, inl, inr}
+use Rattle.std.proofs.Common.{◌≡◌, eqb, List, [], ◌∷◌, map, filter, sym, refl, ap, ◌∙◌, inl, inr}
 use Rattle.std.proofs.lemmas.Bool.{cases_Bool, eqb-true}
 use Rattle.definitions.specs.declared.network.Port.{Port}
 use Rattle.definitions.specs.declared.network.VirtualLink.{VirtualLink}

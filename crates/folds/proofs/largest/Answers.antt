@@ -1,4 +1,4 @@
-use Rattle.std.proofs.Common.{◌≡◌, arith}
+use Rattle.std.proofs.Common.{arith}
 use Rattle.folds.proofs.Rest.{largest_more, largest_all, largest_is_largest}
 use Rattle.folds.proofs.largest.Goals as goal
 

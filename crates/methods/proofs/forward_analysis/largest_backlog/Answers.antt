@@ -1,4 +1,4 @@
-use Rattle.std.proofs.Common.{◌≡◌, ◌-◌, max, inl, inr, arith}
+use Rattle.std.proofs.Common.{◌≡◌, inl, inr, arith}
 use Rattle.definitions.specs.Windows.{horizon, W}
 use Rattle.theory.proofs.Windows.{horizon_pos}
 use Rattle.methods.proofs.BusyPeriod.{none_before, past_limit, worst_before, busy_period_ends}

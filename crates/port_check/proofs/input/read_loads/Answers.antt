@@ -1,4 +1,4 @@
-use Rattle.std.proofs.Common.{◌≡◌, ℕ, ◌+◌, List, [], ◌∷◌, ◌++◌, length, vec_items, sym, refl, ap, ◌∙◌, subst, arith}
+use Rattle.std.proofs.Common.{ℕ, ◌+◌, List, length, vec_items, refl, ap, subst, arith}
 use Rattle.definitions.specs.Text.{lines}
 use Rattle.port_check.proofs.Lines.{lines_most, ReadOn, read_on_more, read_on_fault, read_on_end}
 use Rattle.port_check.proofs.input.read_loads.Goals as goal

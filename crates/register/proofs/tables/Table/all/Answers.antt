@@ -1,5 +1,3 @@
-use Rattle.std.proofs.Common.{sym, ap, ◌∙◌}
-use native.Mathlib.Nat.{sub-zero}
 use Rattle.register.proofs.Rows.{first_rows}
 use Rattle.register.proofs.tables.Table.all.Goals as goal
 
