@@ -6,7 +6,8 @@ usage: python3 tools/spell.py [--names]      at the top of the repository; --nam
 Renamed are names with a dash that specs/ or a lemma file of proofs/ declares: `hops-of` becomes `hops_of`,
 `Line-is-lawful` becomes `LineIsLawful`. They are renamed in specs/, proofs/, src/ (outside string literals) and, between
 backquotes, in README.md and docs/. Names that a library declares, names that Rattle makes (goals, steps) and functions of
-src/ keep theirs. Two names that would fall together are told and stop the run.
+src/ keep theirs. Two names that would fall together are told and stop the run. A file that imports the library's
+`AllByRecursion` as `All`, which is the name of another word of the library, calls it by its own name.
 """
 
 import glob
@@ -121,6 +122,14 @@ def turn_source(t, found):
     return "".join(p if i % 2 else turn(p, found) for i, p in enumerate(parts))
 
 
+def by_own_name(t):
+    if "AllByRecursion as All" not in t:
+        return t
+    t = t.replace("AllByRecursion as All", "AllByRecursion")
+    lines = t.splitlines(keepends=True)
+    return "".join(x if x.lstrip().startswith("--") else re.sub(r"(?<![\w'.-])All(?![\w'-])", "AllByRecursion", x) for x in lines)
+
+
 def turn_page(t, found):
     return re.sub(r"`[^`\n]*`", lambda m: turn(m[0], found), t)
 
@@ -139,7 +148,7 @@ def main():
     for files, how in ((own_files(), turn), (answer_files(), turn_answers), (source_files(), turn_source), (pages, turn_page)):
         for path in files:
             old = text(path)
-            new = how(old, found)
+            new = by_own_name(how(old, found))
             if new != old:
                 with open(path, "w", encoding="utf-8") as f:
                     f.write(new)

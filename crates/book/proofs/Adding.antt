@@ -1,6 +1,6 @@
 -- What a call did is a call more in every list of calls that led to the book.
 use Rattle.std.proofs.Common.{◌≡◌, ℕ, zero, suc, List, [], ◌∷◌, ◌++◌, map, Some, None, Ok, Option, Result, sym, refl, ap, ◌∙◌, subst, arith}
-use Rattle.std.specs.List.{AllByRecursion as All, slice_get}
+use Rattle.std.specs.List.{AllByRecursion, slice_get}
 use Rattle.definitions.specs.declared.network.Port.{Port}
 use Rattle.definitions.specs.declared.network.VirtualLink.{VirtualLink}
 use Rattle.definitions.specs.declared.network.Hop.{Hop}
@@ -31,10 +31,10 @@ same_holds b d s = same_records _ _ _ _ _ _ (ap (map (λ (r : PortRow). r.port))
 -- and shows the same figures
 same_shows : (b d : Book) (F : Figures) → Same b d → Shows b F → Shows d F
 same_shows b d F s h = record {
-  ports = subst (λ (r : Records). All (λ (x : PortRow). (x.backlog ≡ F.backlog x.port.number) × (x.depth ≡ depth r F x.port.number)) (rows d.ports))
+  ports = subst (λ (r : Records). AllByRecursion (λ (x : PortRow). (x.backlog ≡ F.backlog x.port.number) × (x.depth ≡ depth r F x.port.number)) (rows d.ports))
       (sym (same_holds b d s))
-      (subst (All (λ (x : PortRow). (x.backlog ≡ F.backlog x.port.number) × (x.depth ≡ depth (records b) F x.port.number))) (sym s.ports) h.ports);
-  hops = subst (All (λ (x : HopRow). (x.earliest ≡ earliest_at F x.hop) × (x.latest ≡ latest_at F x.hop))) (sym s.hops) h.hops;
+      (subst (AllByRecursion (λ (x : PortRow). (x.backlog ≡ F.backlog x.port.number) × (x.depth ≡ depth (records b) F x.port.number))) (sym s.ports) h.ports);
+  hops = subst (AllByRecursion (λ (x : HopRow). (x.earliest ≡ earliest_at F x.hop) × (x.latest ≡ latest_at F x.hop))) (sym s.hops) h.hops;
 }
 
 -- a call that does what it says or refuses, on any book that calls led to

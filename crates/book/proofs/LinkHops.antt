@@ -1,6 +1,6 @@
 -- The hops of one link stand together: what stands before them and after them is of other links.
 use Rattle.std.proofs.Common.{◌≡◌, ℕ, zero, suc, ◌+◌, ◌-◌, ◌<◌, ◌≤◌, Bool, true, false, cond, not, ◌&&◌, ◌||◌, eqb, List, [], ◌∷◌, ◌++◌, map, length, get_or, take, drop, Some, None, Ok, Err, filter, Option, sym, refl, ap, ◌∙◌, subst, inl, inr, add-one, arith, length-take}
-use Rattle.std.specs.List.{AllByRecursion as All}
+use Rattle.std.specs.List.{AllByRecursion}
 use Rattle.std.proofs.lemmas.Bool.Decides.{nat_tests}
 use Rattle.std.proofs.lemmas.Bool.{eq-eqb, ne_eqb, and_parts, cases_lt, ltb-true, or_left, or_right}
 use Rattle.std.proofs.lemmas.List.{take-append-drop, drop-drop, drop_more, drop_all, get_or-take, get_or-drop, map-append, append-nil}
@@ -51,11 +51,11 @@ kept_append t (x ∷ xs) ys = elim (t x) as (λ b. cond b (x ∷ filter t (xs ++
   | false ↦ kept_append t xs ys
 ]
 
-kept_all : {X Y : Type 0} (f : X → Y) (t : Y → Bool) (xs : List X) → All (λ x. t (f x) ≡ true) xs → filter t (map f xs) ≡ map f xs
+kept_all : {X Y : Type 0} (f : X → Y) (t : Y → Bool) (xs : List X) → AllByRecursion (λ x. t (f x) ≡ true) xs → filter t (map f xs) ≡ map f xs
 kept_all f t [] a = refl
 kept_all f t (x ∷ xs) a = rw a.0 (ap (λ l. f x ∷ l) (kept_all f t xs a.1))
 
-kept_none : {X Y : Type 0} (f : X → Y) (t : Y → Bool) (xs : List X) → All (λ x. t (f x) ≡ false) xs → filter t (map f xs) ≡ []
+kept_none : {X Y : Type 0} (f : X → Y) (t : Y → Bool) (xs : List X) → AllByRecursion (λ x. t (f x) ≡ false) xs → filter t (map f xs) ≡ []
 kept_none f t [] a = refl
 kept_none f t (x ∷ xs) a = rw a.0 (kept_none f t xs a.1)
 
@@ -66,11 +66,11 @@ some_append t (x ∷ xs) ys = elim (t x) as (λ b. (b || some t (xs ++ ys)) ≡ 
   | false ↦ some_append t xs ys
 ]
 
-some_none : {X Y : Type 0} (f : X → Y) (t : Y → Bool) (xs : List X) → All (λ x. t (f x) ≡ false) xs → some t (map f xs) ≡ false
+some_none : {X Y : Type 0} (f : X → Y) (t : Y → Bool) (xs : List X) → AllByRecursion (λ x. t (f x) ≡ false) xs → some t (map f xs) ≡ false
 some_none f t [] a = refl
 some_none f t (x ∷ xs) a = rw a.0 (some_none f t xs a.1)
 
-some_same : {X Y : Type 0} (f : X → Y) (t : Y → Bool) (u : X → Bool) (xs : List X) → All (λ x. t (f x) ≡ u x) xs → some t (map f xs) ≡ some u xs
+some_same : {X Y : Type 0} (f : X → Y) (t : Y → Bool) (u : X → Bool) (xs : List X) → AllByRecursion (λ x. t (f x) ≡ u x) xs → some t (map f xs) ≡ some u xs
 some_same f t u [] a = refl
 some_same f t u (x ∷ xs) a = rw (a.0, some_same f t u xs a.1)
 
@@ -85,10 +85,10 @@ module _ (rs : List HopRow) (l from to : ℕ) (up : ascending (by_key place_befo
   abbrev mid : List HopRow
   mid = take (to - from) (drop from rs)
 
-  front_others : All (λ (r : HopRow). ¬ (r.hop.link ≡ l)) (take from rs)
+  front_others : AllByRecursion (λ (r : HopRow). ¬ (r.hop.link ≡ l)) (take from rs)
   front_others = All-weaker (λ r. place_before (hop_key r) (l, 0) ≡ true) (λ r. ¬ (r.hop.link ≡ l)) (λ r h e. omega (arith, before_start l r h)) (take from rs) st.1
 
-  mid_alike : All (λ (r : HopRow). r.hop.link ≡ l) mid
+  mid_alike : AllByRecursion (λ (r : HopRow). r.hop.link ≡ l) mid
   mid_alike = All-from_get_or (λ (r : HopRow). r.hop.link ≡ l) mid no_row (λ i lt.
       let small : i < to - from = omega (arith, length-take (to - from) (drop from rs)) in
       rw (get_or-take (to - from) (drop from rs) i no_row small, get_or-drop from rs i no_row)
@@ -99,23 +99,23 @@ module _ (rs : List HopRow) (l from to : ℕ) (up : ascending (by_key place_befo
       let e : from + (to - from) ≡ to = omega (arith, re.in_order) in
       ap (λ n. drop n rs) (sym e) ∙ sym (drop-drop (to - from) from rs)
 
-  rises : (y : HopRow) (zs : List HopRow) → l < y.hop.link → every (by_key place_before hop_key y) zs ≡ true → All (λ (r : HopRow). ¬ (r.hop.link ≡ l)) zs
+  rises : (y : HopRow) (zs : List HopRow) → l < y.hop.link → every (by_key place_before hop_key y) zs ≡ true → AllByRecursion (λ (r : HopRow). ¬ (r.hop.link ≡ l)) zs
   rises y [] lt h = tt
   rises y (z ∷ zs) lt h =
       let (a, b) = and_parts (by_key place_before hop_key y z) (every (by_key place_before hop_key y) zs) h in
       ((λ e. omega (arith, links_rise y z a)), rises y zs lt b)
 
-  back_others : All (λ (r : HopRow). ¬ (r.hop.link ≡ l)) (drop to rs)
+  back_others : AllByRecursion (λ (r : HopRow). ¬ (r.hop.link ≡ l)) (drop to rs)
   back_others = elim (cases_lt to (length rs)) [
     | inl lt ↦
         let e = drop_more rs to no_row lt in
         let asc = subst (λ (zs : List HopRow). ascending (by_key place_before hop_key) zs ≡ true) e (without_ascends (by_key place_before hop_key) rs 0 to (omega arith) up) in
-        let late = subst (All (λ (r : HopRow). place_before (hop_key r) (l, 0) ≡ false)) (sym back_is ∙ e) (All-drop (λ (r : HopRow). place_before (hop_key r) (l, 0) ≡ false) (to - from) (drop from rs) st.2) in
+        let late = subst (AllByRecursion (λ (r : HopRow). place_before (hop_key r) (l, 0) ≡ false)) (sym back_is ∙ e) (All-drop (λ (r : HopRow). place_before (hop_key r) (l, 0) ≡ false) (to - from) (drop from rs) st.2) in
         let other = re.stops lt no_row in
         let (first, rest) = and_parts (every (by_key place_before hop_key (get_or rs to no_row)) (drop (to + 1) rs)) (ascending (by_key place_before hop_key) (drop (to + 1) rs)) asc in
         let later = after_start l (get_or rs to no_row) late.0 in
-        subst (All (λ (r : HopRow). ¬ (r.hop.link ≡ l))) (sym e) (other, rises (get_or rs to no_row) (drop (to + 1) rs) (omega arith) first)
-    | inr le ↦ subst (All (λ (r : HopRow). ¬ (r.hop.link ≡ l))) (sym (drop_all to rs le)) tt
+        subst (AllByRecursion (λ (r : HopRow). ¬ (r.hop.link ≡ l))) (sym e) (other, rises (get_or rs to no_row) (drop (to + 1) rs) (omega arith) first)
+    | inr le ↦ subst (AllByRecursion (λ (r : HopRow). ¬ (r.hop.link ≡ l))) (sym (drop_all to rs le)) tt
   ]
 
   parts : rs ≡ take from rs ++ (mid ++ drop to rs)
@@ -185,7 +185,7 @@ run_gone lt key from to t u false (same, n) le most = absurd (n (le, most))
 
 -- the link at its place is the only one of its number
 module _ (l : ℕ) where
-  larger : (y : LinkRow) (zs : List LinkRow) → y.link.number ≡ l → every (by_key number_before link_key y) zs ≡ true → All (λ (r : LinkRow). not (eqb r.link.number l) ≡ true) zs
+  larger : (y : LinkRow) (zs : List LinkRow) → y.link.number ≡ l → every (by_key number_before link_key y) zs ≡ true → AllByRecursion (λ (r : LinkRow). not (eqb r.link.number l) ≡ true) zs
   larger y [] e h = tt
   larger y (z ∷ zs) e h =
       let (a, b) = and_parts (by_key number_before link_key y z) (every (by_key number_before link_key y) zs) h in

@@ -2,7 +2,7 @@
 use Rattle.std.proofs.Common.{◌≡◌, ℕ, ◌+◌, ◌-◌, ◌^◌, ◌<◌, Bool, true, false, ◌&&◌, eqb, List, [], ◌∷◌, map, length, take, drop, Some, None, Ok, Err, Option, unwrap_or, sym, refl, ap, ◌∙◌, inl, inr, arith, length-drop, length-take}
 use lib.ListN.{length-map}
 use Rattle.std.specs.Option.{SomeIff}
-use Rattle.std.specs.List.{AllByRecursion as All}
+use Rattle.std.specs.List.{AllByRecursion}
 use Rattle.std.proofs.lemmas.Bool.Decides.{nat_tests}
 use Rattle.std.proofs.lemmas.Bool.{and_parts, cases_Bool, eqb-true, eq-eqb, ne_eqb, le-ltb, not-false}
 use Rattle.std.proofs.ByRecursion.{All-take, All-drop}
@@ -162,7 +162,7 @@ module _ (b : Book) (up : b.standing ≡ true) (p : ℕ) where
 -- ## The delay of a link
 
 -- a figure over images
-largest_over : {X Y : Type 0} (f : Y → ℕ) (g : X → Y) (k : X → ℕ) (xs : List X) → All (λ x. f (g x) ≡ k x) xs → largest f (map g xs) ≡ largest k xs
+largest_over : {X Y : Type 0} (f : Y → ℕ) (g : X → Y) (k : X → ℕ) (xs : List X) → AllByRecursion (λ x. f (g x) ≡ k x) xs → largest f (map g xs) ≡ largest k xs
 largest_over f g k [] a = refl
 largest_over f g k (x ∷ xs) a = rw (a.0, largest_over f g k xs a.1)
 

@@ -12,7 +12,7 @@
 --   Adds c a b d         to whatever calls led to b, the call c with the answer a is added at d
 
 use Rattle.std.specs.Prelude.{◌≡◌, ℕ, false, List, [], ◌∷◌, ◌++◌, map, take, is_some, is_ok, Some, None, Ok, Err, Option, Result}
-use Rattle.std.specs.List.{AllByRecursion as All}
+use Rattle.std.specs.List.{AllByRecursion}
 use Rattle.definitions.specs.declared.network.Hop.{Hop}
 use Rattle.definitions.specs.declared.refusals.Refusal.{Refusal}
 use Rattle.definitions.specs.declared.loads.Load.{Load}
@@ -54,8 +54,8 @@ Doing None after b d r = (r ≡ Ok tt) × (records d ≡ after) × (d.standing �
 Doing (Some e) after b d r = (r ≡ Err e) × Same b d
 
 pub record Shows (b : Book) (F : Figures) : Type 0 where
-  pub ports : All (λ (r : PortRow). (r.backlog ≡ F.backlog r.port.number) × (r.depth ≡ depth (records b) F r.port.number)) (rows b.ports)
-  pub hops : All (λ (r : HopRow). (r.earliest ≡ earliest_at F r.hop) × (r.latest ≡ latest_at F r.hop)) (rows b.hops)
+  pub ports : AllByRecursion (λ (r : PortRow). (r.backlog ≡ F.backlog r.port.number) × (r.depth ≡ depth (records b) F r.port.number)) (rows b.ports)
+  pub hops : AllByRecursion (λ (r : HopRow). (r.earliest ≡ earliest_at F r.hop) × (r.latest ≡ latest_at F r.hop)) (rows b.hops)
 
 pub record Made (cs : List Call) (as' : List Answer) (b : Book) : Type 0 where
   pub state : State

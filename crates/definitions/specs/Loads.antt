@@ -7,7 +7,7 @@
 --   Making l r        r is what making the load l answers: l itself, or the first ground that it meets
 
 use Rattle.std.specs.Prelude.{◌≡◌, ℕ, ◌≤◌, ◌⊎◌, List, [], ◌∷◌, Ok, Err, Result}
-use Rattle.std.specs.List.{AllByRecursion as All}
+use Rattle.std.specs.List.{AllByRecursion}
 use Rattle.definitions.specs.Lists.{In}
 use Rattle.definitions.specs.declared.loads.Load.{Load}
 use Rattle.definitions.specs.declared.refusals.Refusal.{Refusal}
@@ -30,7 +30,7 @@ pub record IsLoad (l : Load) : Type 0 where
   pub in_range : InRange l
 
 abbrev pub AreLoads : List Load → Type 0
-AreLoads ls = All IsLoad ls
+AreLoads ls = AllByRecursion IsLoad ls
 
 -- the gap is tried first
 abbrev pub Making : Load → Result Load Refusal → Type 0

@@ -2,7 +2,7 @@
 -- Each is the contract of a public function; docs/PROOFS.md has the map.
 
 use Rattle.std.specs.Prelude.{◌≡◌, ℕ, ◌+◌, ◌^◌, ◌<◌, ◌≤◌, min, true, false, ◌↔◌, List, [], ◌∷◌, ◌++◌, length, Some, None, Ok, decimal}
-use Rattle.std.specs.List.{flat_map, AllByRecursion as All}
+use Rattle.std.specs.List.{flat_map, AllByRecursion}
 use Rattle.definitions.specs.declared.loads.Load.{Load}
 use Rattle.definitions.specs.declared.network.Port.{Port}
 use Rattle.definitions.specs.declared.network.VirtualLink.{VirtualLink}
@@ -161,13 +161,13 @@ NumbersReadAsWritten =
 
 -- no byte of the list is c
 abbrev pub Lacks : ℕ → List ℕ → Type 0
-Lacks c bs = All (λ (b : ℕ). ¬ (b ≡ c)) bs
+Lacks c bs = AllByRecursion (λ (b : ℕ). ¬ (b ≡ c)) bs
 
 -- the lines of a finished text, each with its line feed, are the text; the fields of a line, with commas between, are the line
 abbrev pub PartsMakeTheWhole : Type 0
 PartsMakeTheWhole =
-    ((text : List ℕ) → finished text ≡ true → (flat_map (λ (l : List ℕ). l ++ (line_feed ∷ [])) (lines text) ≡ text) × All (Lacks line_feed) (lines text))
-    × ((l : List ℕ) → (line_of (fields l) ≡ l ++ (line_feed ∷ [])) × All (Lacks comma) (fields l))
+    ((text : List ℕ) → finished text ≡ true → (flat_map (λ (l : List ℕ). l ++ (line_feed ∷ [])) (lines text) ≡ text) × AllByRecursion (Lacks line_feed) (lines text))
+    × ((l : List ℕ) → (line_of (fields l) ≡ l ++ (line_feed ∷ [])) × AllByRecursion (Lacks comma) (fields l))
 
 -- what is written for a book is read back as the same book
 abbrev pub WrittenTextReadsBack : Type 0

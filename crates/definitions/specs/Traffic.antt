@@ -11,7 +11,7 @@
 --   Keeps r T           the traffic T keeps the gaps and lengths of the records r, one field for each rule
 
 use Rattle.std.specs.Prelude.{◌≡◌, ℕ, ◌+◌, ◌-◌, ◌<◌, ◌≤◌, min, Bool, true, cond, ◌&&◌, ◌⊎◌, List, [], ◌∷◌, Some, None, ◌==◌, nat_le, nat_lt}
-use Rattle.std.specs.List.{AllByRecursion as All}
+use Rattle.std.specs.List.{AllByRecursion}
 use Rattle.definitions.specs.declared.network.VirtualLink.{VirtualLink}
 use Rattle.definitions.specs.declared.network.Hop.{Hop}
 use Rattle.definitions.specs.Lists.{In, total, some}
@@ -62,7 +62,7 @@ Apart r f g = f.link ≡ g.link
 
 abbrev pub AllApart : Records → List Frame → Type 0
 AllApart r [] = Unit {0}
-AllApart r (f ∷ fs) = All (Apart r f) fs × AllApart r fs
+AllApart r (f ∷ fs) = AllByRecursion (Apart r f) fs × AllApart r fs
 
 -- a frame is of a link of the records, which has a first hop, and no shorter or longer than the link allows
 pub record FrameKept (r : Records) (f : Frame) : Type 0 where

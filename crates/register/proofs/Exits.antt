@@ -1,7 +1,7 @@
 -- What each exit of a call on a table leaves.
 use Rattle.std.proofs.Common.{◌≡◌, ℕ, zero, suc, ◌+◌, ◌-◌, ◌<◌, ◌≤◌, min, Bool, true, false, List, [], ◌∷◌, ◌++◌, length, get_or, take, drop, set, Some, None, Ok, Err, Option, Ordering, Less, Equal, Greater, sym, refl, ap, ◌∙◌, subst, inl, inr, arith, length-take}
 use lib.Seq.{take-set-lt}
-use Rattle.std.specs.List.{AllByRecursion as All, insert, slice_get}
+use Rattle.std.specs.List.{AllByRecursion, insert, slice_get}
 use Rattle.std.specs.Ordering.{MatchOrdering}
 use Rattle.std.proofs.lemmas.Option.{slice_get-get_or, slice_get_past}
 use Rattle.std.proofs.lemmas.Bool.{cases_lt, and_parts}
@@ -35,13 +35,13 @@ module _ {R K : Type 0} (lt : K → K → Bool) (key : R → K) (one : (a b : K)
 module _ {R K : Type 0} (lt : K → K → Bool) (key : R → K) (one : (a b : K) → ExactlyOne (lt a b ≡ true) (a ≡ b) (lt b a ≡ true)) where
   -- the place at which the key stands
   starts_at : (k : K) (rs : List R) (i : ℕ) → ascending (by_key lt key) rs ≡ true → i < length rs → ((d : R) → key (get_or rs i d) ≡ k)
-      → All (λ x. lt (key x) k ≡ true) (take i rs) × All (λ x. lt (key x) k ≡ false) (drop i rs)
+      → AllByRecursion (λ x. lt (key x) k ≡ true) (take i rs) × AllByRecursion (λ x. lt (key x) k ≡ false) (drop i rs)
   starts_at k [] i up l e = absurd (omega arith)
   starts_at k (y ∷ ys) zero up l e =
       let (first, rest) = and_parts (every (by_key lt key y) ys) (ascending (by_key lt key) ys) up in
       (tt, (never_itself lt one (key y) k (e y), all_after ys first))
     where
-      all_after : (zs : List R) → every (by_key lt key y) zs ≡ true → All (λ x. lt (key x) k ≡ false) zs
+      all_after : (zs : List R) → every (by_key lt key y) zs ≡ true → AllByRecursion (λ x. lt (key x) k ≡ false) zs
       all_after [] h = tt
       all_after (z ∷ zs) h =
           let (a, b) = and_parts (by_key lt key y z) (every (by_key lt key y) zs) h in
@@ -72,11 +72,11 @@ module _ {R K : Type 0} (lt : K → K → Bool) (key : R → K) (one : (a b : K)
   present f o = (refl, (get_or (rows t) i x, getD_in (rows t) i x (f o).0, (f o).1 x ∙ is))
 
   module _ (n : ℕ) (count : n ≡ length (rows t)) (f : Ordered lt key t → Found lt key (rows t) k (Err i)) (o : Ordered lt key t) where
-    smaller : All (λ y. lt (key y) (key x) ≡ true) (take i (rows t))
-    smaller = subst (λ (z : K). All (λ y. lt (key y) z ≡ true) (take i (rows t))) is (f o).1
+    smaller : AllByRecursion (λ y. lt (key y) (key x) ≡ true) (take i (rows t))
+    smaller = subst (λ (z : K). AllByRecursion (λ y. lt (key y) z ≡ true) (take i (rows t))) is (f o).1
 
-    larger : All (λ y. lt (key x) (key y) ≡ true) (drop i (rows t))
-    larger = subst (λ (z : K). All (λ y. lt z (key y) ≡ true) (drop i (rows t))) is (f o).2
+    larger : AllByRecursion (λ y. lt (key x) (key y) ≡ true) (drop i (rows t))
+    larger = subst (λ (z : K). AllByRecursion (λ y. lt z (key y) ≡ true) (drop i (rows t))) is (f o).2
 
     pub full_up : min (room t) most ≤ n → Inserting lt key most x t t Full
     full_up no_place = (refl, omega arith, none_there lt one key x (rows t) i smaller larger)

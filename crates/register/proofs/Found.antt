@@ -1,6 +1,6 @@
 -- Ascending lists: what lies before and after a place, and halving towards a key.
 use Rattle.std.proofs.Common.{◌≡◌, ℕ, zero, suc, ◌+◌, ◌<◌, ◌≤◌, Bool, true, List, [], ◌∷◌, length, get_or, take, drop, Ok, Err, sym, ap, ◌∙◌, subst, add-one, arith}
-use Rattle.std.specs.List.{AllByRecursion as All}
+use Rattle.std.specs.List.{AllByRecursion}
 use Rattle.std.proofs.lemmas.List.{drop_all, drop_more, get_or_default}
 use Rattle.std.proofs.ByRecursion.{All-weaker, All-more}
 use Rattle.std.proofs.lemmas.Bool.{and_parts}
@@ -8,7 +8,7 @@ use Rattle.definitions.specs.Lists.{every, ascending}
 use Rattle.register.specs.Tables.{by_key, Found}
 
 module _ {X : Type 0} (lt : X → X → Bool) where
-  every_all : (t : X → Bool) (xs : List X) → every t xs ≡ true → All (λ y. t y ≡ true) xs
+  every_all : (t : X → Bool) (xs : List X) → every t xs ≡ true → AllByRecursion (λ y. t y ≡ true) xs
   every_all t [] h = tt
   every_all t (x ∷ xs) h = let p = and_parts (t x) (every t xs) h in (p.0, every_all t xs p.1)
 
@@ -17,7 +17,7 @@ module _ {X : Type 0} (lt : X → X → Bool) where
   every_at t (x ∷ xs) zero d l h = (and_parts (t x) (every t xs) h).0
   every_at t (x ∷ xs) (suc i) d l h = every_at t xs i d (omega arith) (and_parts (t x) (every t xs) h).1
 
-  ascend_before : (xs : List X) (i : ℕ) (d : X) → i < length xs → ascending lt xs ≡ true → All (λ y. lt y (get_or xs i d) ≡ true) (take i xs)
+  ascend_before : (xs : List X) (i : ℕ) (d : X) → i < length xs → ascending lt xs ≡ true → AllByRecursion (λ y. lt y (get_or xs i d) ≡ true) (take i xs)
   ascend_before [] i d l h = absurd (omega arith)
   ascend_before (x ∷ xs) zero d l h = tt
   ascend_before (x ∷ xs) (suc i) d l h =
@@ -25,7 +25,7 @@ module _ {X : Type 0} (lt : X → X → Bool) where
       let less : i < length xs = omega arith in
       (every_at (lt x) xs i d less p.0, ascend_before xs i d less p.1)
 
-  ascend_after : (xs : List X) (i : ℕ) (d : X) → i < length xs → ascending lt xs ≡ true → All (λ y. lt (get_or xs i d) y ≡ true) (drop (suc i) xs)
+  ascend_after : (xs : List X) (i : ℕ) (d : X) → i < length xs → ascending lt xs ≡ true → AllByRecursion (λ y. lt (get_or xs i d) y ≡ true) (drop (suc i) xs)
   ascend_after [] i d l h = absurd (omega arith)
   ascend_after (x ∷ xs) zero d l h = every_all (lt x) xs (and_parts (every (lt x) xs) (ascending lt xs) h).0
   ascend_after (x ∷ xs) (suc i) d l h = ascend_after xs i d (omega arith) (and_parts (every (lt x) xs) (ascending lt xs) h).1
@@ -34,8 +34,8 @@ module _ {X : Type 0} (lt : X → X → Bool) where
 pub record Narrowed {R K : Type 0} (lt : K → K → Bool) (key : R → K) (rs : List R) (k : K) (low high : ℕ) : Type 0 where
   pub order : low ≤ high
   pub within : high ≤ length rs
-  pub below : ascending (by_key lt key) rs ≡ true → All (λ x. lt (key x) k ≡ true) (take low rs)
-  pub above : ascending (by_key lt key) rs ≡ true → All (λ x. lt k (key x) ≡ true) (drop high rs)
+  pub below : ascending (by_key lt key) rs ≡ true → AllByRecursion (λ x. lt (key x) k ≡ true) (take low rs)
+  pub above : ascending (by_key lt key) rs ≡ true → AllByRecursion (λ x. lt k (key x) ≡ true) (drop high rs)
 
 module _ {R K : Type 0} (lt : K → K → Bool) (key : R → K) (rs : List R) (k : K) where
   pub narrowed_none : Narrowed lt key rs k 0 (length rs)
@@ -43,7 +43,7 @@ module _ {R K : Type 0} (lt : K → K → Bool) (key : R → K) (rs : List R) (k
     order = omega arith;
     within = omega arith;
     below = λ a. tt;
-    above = λ a. subst (All (λ x. lt k (key x) ≡ true)) (sym (drop_all (length rs) rs (omega arith))) tt;
+    above = λ a. subst (AllByRecursion (λ x. lt k (key x) ≡ true)) (sym (drop_all (length rs) rs (omega arith))) tt;
   }
 
   module _ (carries : (a b c : K) → lt a b ≡ true → lt b c ≡ true → lt a c ≡ true) (low high i : ℕ) (old : Narrowed lt key rs k low high)
@@ -72,9 +72,9 @@ module _ {R K : Type 0} (lt : K → K → Bool) (key : R → K) (rs : List R) (k
           order = from;
           within = omega arith;
           below = old.below;
-          above = λ a. subst (All (λ x. lt k (key x) ≡ true)) (sym (drop_more rs i d l)) (
+          above = λ a. subst (AllByRecursion (λ x. lt k (key x) ≡ true)) (sym (drop_more rs i d l)) (
             h,
-            subst (λ n. All (λ x. lt k (key x) ≡ true) (drop n rs)) (sym (add-one i))
+            subst (λ n. AllByRecursion (λ x. lt k (key x) ≡ true) (drop n rs)) (sym (add-one i))
                 (All-weaker (λ x. lt (key (get_or rs i d)) (key x) ≡ true) (λ x. lt k (key x) ≡ true) (λ x e. carries k (key (get_or rs i d)) (key x) h e)
                 (drop (suc i) rs) (ascend_after (by_key lt key) rs i d l a)),
           );
@@ -86,4 +86,4 @@ module _ {R K : Type 0} (lt : K → K → Bool) (key : R → K) (rs : List R) (k
   pub found_none : (low high : ℕ) → Narrowed lt key rs k low high → high ≤ low → ascending (by_key lt key) rs ≡ true → Found lt key rs k (Err low)
   found_none low high n h a =
       let e : high ≡ low = omega arith in
-      (omega arith, n.below a, subst (λ m. All (λ x. lt k (key x) ≡ true) (drop m rs)) e (n.above a))
+      (omega arith, n.below a, subst (λ m. AllByRecursion (λ x. lt k (key x) ≡ true) (drop m rs)) e (n.above a))

@@ -1,6 +1,6 @@
 -- Ascending lists of records that are changed at a place.
 use Rattle.std.proofs.Common.{◌≡◌, ℕ, zero, suc, ◌<◌, ◌≤◌, Bool, true, false, ◌&&◌, List, [], ◌∷◌, ◌++◌, length, get_or, take, drop, set, sym, refl, ap, ◌∙◌, inl, inr, arith}
-use Rattle.std.specs.List.{AllByRecursion as All, insert}
+use Rattle.std.specs.List.{AllByRecursion, insert}
 use Rattle.std.proofs.lemmas.Bool.{and_parts, and_from, cases_Bool, cond-true, cond-false}
 use Rattle.definitions.specs.Lists.{In, every, ascending}
 use Rattle.definitions.specs.Entries.{placed}
@@ -10,7 +10,7 @@ use Rattle.register.specs.Tables.{by_key}
 -- ## Tests of all items
 
 module _ {X : Type 0} (t : X → Bool) where
-  all_every : (xs : List X) → All (λ y. t y ≡ true) xs → every t xs ≡ true
+  all_every : (xs : List X) → AllByRecursion (λ y. t y ≡ true) xs → every t xs ≡ true
   all_every [] a = refl
   all_every (x ∷ xs) a = and_from (t x) (every t xs) a.0 (all_every xs a.1)
 
@@ -105,7 +105,7 @@ module _ {K : Type 0} (lt : K → K → Bool) (one : (a b : K) → ExactlyOne (l
   ]
 
   -- no record is under a key that stands after all before a place, and before all from there on
-  pub none_under : {R : Type 0} (key : R → K) (k : K) (xs : List R) (i : ℕ) → All (λ y. lt (key y) k ≡ true) (take i xs) → All (λ y. lt k (key y) ≡ true) (drop i xs)
+  pub none_under : {R : Type 0} (key : R → K) (k : K) (xs : List R) (i : ℕ) → AllByRecursion (λ y. lt (key y) k ≡ true) (take i xs) → AllByRecursion (λ y. lt k (key y) ≡ true) (drop i xs)
       → (y : R) → In y xs → ¬ (key y ≡ k)
   none_under key k [] i a b y j = absurd j
   none_under key k (z ∷ zs) zero a b y (inl e) = λ h. before_apart k (key z) b.0 (sym (ap key (sym e) ∙ h))
@@ -115,7 +115,7 @@ module _ {K : Type 0} (lt : K → K → Bool) (one : (a b : K) → ExactlyOne (l
 
   module _ {R : Type 0} (key : R → K) (x : R) where
     -- a record that stands after all before its place, and before all from there on
-    pub placed_is : (xs : List R) (i : ℕ) → All (λ y. lt (key y) (key x) ≡ true) (take i xs) → All (λ y. lt (key x) (key y) ≡ true) (drop i xs)
+    pub placed_is : (xs : List R) (i : ℕ) → AllByRecursion (λ y. lt (key y) (key x) ≡ true) (take i xs) → AllByRecursion (λ y. lt (key x) (key y) ≡ true) (drop i xs)
         → placed (by_key lt key) x xs ≡ insert xs i x
     placed_is [] zero a b = refl
     placed_is [] (suc i) a b = refl
@@ -124,7 +124,7 @@ module _ {K : Type 0} (lt : K → K → Bool) (one : (a b : K) → ExactlyOne (l
         cond-false (lt (key x) (key y)) (x ∷ y ∷ ys) (y ∷ placed (by_key lt key) x ys) (before_once (key y) (key x) a.0)
         ∙ ap (λ l. y ∷ l) (placed_is ys i a.1 b)
 
-    pub inserted_ascends : (xs : List R) (i : ℕ) → All (λ y. lt (key y) (key x) ≡ true) (take i xs) → All (λ y. lt (key x) (key y) ≡ true) (drop i xs)
+    pub inserted_ascends : (xs : List R) (i : ℕ) → AllByRecursion (λ y. lt (key y) (key x) ≡ true) (take i xs) → AllByRecursion (λ y. lt (key x) (key y) ≡ true) (drop i xs)
         → ascending (by_key lt key) xs ≡ true → ascending (by_key lt key) (insert xs i x) ≡ true
     inserted_ascends [] zero a b h = refl
     inserted_ascends [] (suc i) a b h = refl
@@ -136,6 +136,6 @@ module _ {K : Type 0} (lt : K → K → Bool) (one : (a b : K) → ExactlyOne (l
         (every_inserted (by_key lt key y) ys i x p.0 a.0) (inserted_ascends ys i a.1 b p.1)
 
     -- no record of the list has its key
-    pub none_there : (xs : List R) (i : ℕ) → All (λ y. lt (key y) (key x) ≡ true) (take i xs) → All (λ y. lt (key x) (key y) ≡ true) (drop i xs)
+    pub none_there : (xs : List R) (i : ℕ) → AllByRecursion (λ y. lt (key y) (key x) ≡ true) (take i xs) → AllByRecursion (λ y. lt (key x) (key y) ≡ true) (drop i xs)
         → (y : R) → In y xs → ¬ (key y ≡ key x)
     none_there = none_under key (key x)

@@ -14,7 +14,7 @@
 --   Removing             what removing the records from one place to before another answers and leaves
 
 use Rattle.std.specs.Prelude.{◌≡◌, ℕ, ◌<◌, ◌≤◌, min, Bool, true, false, List, ◌++◌, length, take, drop, Some, None, Ok, Err, Option, Result, slice_index_or, slice_set}
-use Rattle.std.specs.List.{AllByRecursion as All}
+use Rattle.std.specs.List.{AllByRecursion}
 use Rattle.definitions.specs.Lists.{In, ascending}
 use Rattle.definitions.specs.Entries.{placed}
 use Rattle.register.specs.declared.tables.Table.{Table}
@@ -36,11 +36,11 @@ Ordered lt key t = ascending (by_key lt key) (rows t) ≡ true
 -- the place of the record under the key, or the place before which all keys are smaller and from which on all are larger
 abbrev pub Found : {R K : Type 0} → (K → K → Bool) → (R → K) → List R → K → Result ℕ ℕ → Type 0
 Found lt key rs k (Ok i) = (i < length rs) × ((d : _) → key (slice_index_or rs i d) ≡ k)
-Found lt key rs k (Err i) = (i ≤ length rs) × All (λ x. lt (key x) k ≡ true) (take i rs) × All (λ x. lt k (key x) ≡ true) (drop i rs)
+Found lt key rs k (Err i) = (i ≤ length rs) × AllByRecursion (λ x. lt (key x) k ≡ true) (take i rs) × AllByRecursion (λ x. lt k (key x) ≡ true) (drop i rs)
 
 -- the place from which on no key is before k, and before which all are
 abbrev pub Starts : {R K : Type 0} → (K → K → Bool) → (R → K) → List R → K → ℕ → Type 0
-Starts lt key rs k i = (i ≤ length rs) × All (λ x. lt (key x) k ≡ true) (take i rs) × All (λ x. lt (key x) k ≡ false) (drop i rs)
+Starts lt key rs k i = (i ≤ length rs) × AllByRecursion (λ x. lt (key x) k ≡ true) (take i rs) × AllByRecursion (λ x. lt (key x) k ≡ false) (drop i rs)
 
 -- the record under the key, if there is one
 abbrev pub Getting : {R K : Type 0} → (R → K) → List R → K → Option R → Type 0

@@ -1,6 +1,6 @@
 -- Entering a record that meets no ground, and removing a link with its hops, keep the rules of the records.
 use Rattle.std.proofs.Common.{◌≡◌, ℕ, suc, ◌+◌, ◌≤◌, min, Bool, true, false, cond, not, ◌&&◌, eqb, leb, ◌⊎◌, List, [], ◌∷◌, length, Some, None, Option, sym, refl, ap, ◌∙◌, subst, inl, inr, arith}
-use Rattle.std.specs.List.{AllByRecursion as All}
+use Rattle.std.specs.List.{AllByRecursion}
 use Rattle.std.proofs.lemmas.Bool.Decides.{nat_tests}
 use Rattle.std.proofs.lemmas.Bool.{and_parts, and_from, and_cases, or_cases, both_ways, not-false, eqb-true, eq-eqb, leb-true, leb-false}
 use Rattle.definitions.specs.declared.network.Port.{Port}
@@ -39,9 +39,9 @@ hop_after h k a b = grind (arith, nat_tests)
 
 -- ## Grounds that are not met
 
-pub none_met : (gs : List (Bool × Refusal)) → first_met gs ≡ None → All (λ (g : Bool × Refusal). g.0 ≡ false) gs
+pub none_met : (gs : List (Bool × Refusal)) → first_met gs ≡ None → AllByRecursion (λ (g : Bool × Refusal). g.0 ≡ false) gs
 none_met [] h = tt
-none_met (g ∷ gs) h = elim g.0 as (λ b. g.0 ≡ b → cond b (Some g.1) (first_met gs) ≡ None → (g.0 ≡ false) × All (λ (g : Bool × Refusal). g.0 ≡ false) gs) [
+none_met (g ∷ gs) h = elim g.0 as (λ b. g.0 ≡ b → cond b (Some g.1) (first_met gs) ≡ None → (g.0 ≡ false) × AllByRecursion (λ (g : Bool × Refusal). g.0 ≡ false) gs) [
   | true ↦ λ e k. let z : ◌≡◌ {A = ℕ} 0 1 = cc in absurd (omega arith)
   | false ↦ λ e k. (e, none_met gs k)
 ] refl h

@@ -1,6 +1,6 @@
 -- Members: what stands in a list, and sums over it.
 use Rattle.std.proofs.Common.{◌≡◌, ℕ, ◌+◌, ◌<◌, ◌≤◌, Bool, true, cond, ◌⊎◌, List, [], ◌∷◌, map, filter, refl, ap, inl, inr, arith}
-use Rattle.std.specs.List.{AllByRecursion as All}
+use Rattle.std.specs.List.{AllByRecursion}
 use Rattle.std.proofs.lemmas.Bool.{false≢true, cases_Bool, or_cases, or_left, or_right}
 use Rattle.definitions.specs.Lists.{In, total, largest, some}
 
@@ -49,12 +49,12 @@ kept_in {X} test (y ∷ ys) x i =
     ]
 
 -- what holds of each item that stands in the list holds of all
-pub all_in : {X : Type 0} (P : X → Type 0) (xs : List X) → ((x : X) → In x xs → P x) → All P xs
+pub all_in : {X : Type 0} (P : X → Type 0) (xs : List X) → ((x : X) → In x xs → P x) → AllByRecursion P xs
 all_in P [] h = tt
 all_in P (x ∷ xs) h = (h x (inl refl), all_in P xs (λ y i. h y (inr i)))
 
 -- and of all, of each
-pub in_all : {X : Type 0} (P : X → Type 0) (xs : List X) → All P xs → (x : X) → In x xs → P x
+pub in_all : {X : Type 0} (P : X → Type 0) (xs : List X) → AllByRecursion P xs → (x : X) → In x xs → P x
 in_all P [] a x i = absurd i
 in_all P (y ∷ ys) a x (inl e) = rw e a.0
 in_all P (y ∷ ys) a x (inr i) = in_all P ys a.1 x i

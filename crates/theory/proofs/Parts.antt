@@ -3,7 +3,7 @@
 --   ended l            a line with its line feed
 use Rattle.std.proofs.Common.{◌≡◌, ℕ, ◌<◌, true, false, cond, eqb, List, [], ◌∷◌, ◌++◌, length, sym, refl, ap, ◌∙◌, inl, inr, arith}
 use native.Mathlib.Numerals.{unary_clauses}
-use Rattle.std.specs.List.{flat_map, AllByRecursion as All}
+use Rattle.std.specs.List.{flat_map, AllByRecursion}
 use Rattle.std.proofs.lemmas.Bool.{ne_eqb, eqb-true, eqb-false, cases_Bool, both_ways}
 use Rattle.definitions.specs.Text.{line_feed, comma, onto, lines, fields, finished, line_of}
 use Rattle.definitions.specs.Promises.{Lacks, PartsMakeTheWhole}
@@ -50,7 +50,7 @@ lines_some b bs =
     ]
 
 -- no part gains a c by a byte that is none
-lacks_onto : (c b : ℕ) (ls : List (List ℕ)) → ¬ (b ≡ c) → All (Lacks c) ls → All (Lacks c) (onto b ls)
+lacks_onto : (c b : ℕ) (ls : List (List ℕ)) → ¬ (b ≡ c) → AllByRecursion (Lacks c) ls → AllByRecursion (Lacks c) (onto b ls)
 lacks_onto c b [] n h = ((n, tt), tt)
 lacks_onto c b (l ∷ ls) n h = ((n, h.0), h.1)
 
@@ -70,7 +70,7 @@ lines_whole (b ∷ c ∷ cs) h =
     ]
 
 -- no line has a line feed
-lines_lack : (text : List ℕ) → All (Lacks line_feed) (lines text)
+lines_lack : (text : List ℕ) → AllByRecursion (Lacks line_feed) (lines text)
 lines_lack [] = tt
 lines_lack (b ∷ bs) =
     elim (cases_Bool (eqb b line_feed)) [
@@ -110,7 +110,7 @@ fields_whole (b ∷ bs) =
     ]
 
 -- no field has a comma
-fields_lack : (l : List ℕ) → All (Lacks comma) (fields l)
+fields_lack : (l : List ℕ) → AllByRecursion (Lacks comma) (fields l)
 fields_lack [] = (tt, tt)
 fields_lack (b ∷ bs) =
     elim (cases_Bool (eqb b comma)) [

@@ -1,6 +1,6 @@
 -- ReadBack: what is written for a book is read back as the same book.
 use Rattle.std.proofs.Common.{◌≡◌, ℕ, ◌+◌, Bool, true, cond, not, ◌&&◌, ◌||◌, eqb, leb, ◌⊎◌, List, [], ◌∷◌, ◌++◌, map, length, Some, None, Ok, Err, codes, Option, Result, sym, refl, ap, ◌∙◌, inl, inr, append_assoc, append-nil}
-use Rattle.std.specs.List.{flat_map, AllByRecursion as All}
+use Rattle.std.specs.List.{flat_map, AllByRecursion}
 use Rattle.std.proofs.ByRecursion.{All-append}
 use Rattle.std.proofs.lemmas.Bool.{and_parts, or_cases, eqb-true, eqb-false, leb-true, not-true}
 use Rattle.definitions.specs.declared.network.Port.{Port}
@@ -51,7 +51,7 @@ lacks_feed (b ∷ bs) h =
     (eqb-false b 10 (not-true (eqb b 10) here), lacks_feed bs more)
 
 -- bytes that a test finds to be able to stand
-all_stand : (bs : List ℕ) → every (λ (b : ℕ). eqb b line_feed || (leb 33 b && leb b 126)) bs ≡ true → All Stands bs
+all_stand : (bs : List ℕ) → every (λ (b : ℕ). eqb b line_feed || (leb 33 b && leb b 126)) bs ≡ true → AllByRecursion Stands bs
 all_stand [] h = tt
 all_stand (b ∷ bs) h =
     let (here, more) = and_parts (eqb b 10 || (leb 33 b && leb b 126)) (every (λ (c : ℕ). eqb c line_feed || (leb 33 c && leb c 126)) bs) h in
@@ -105,15 +105,15 @@ written_lines r = codes "VLT,1" ∷ codes "@port,number,kind,rate" ∷ port_line
 
 module _ (r : Records) (w : WellFormed r) where
   -- the fields of each row can stand in a line: of ports
-  ports_plain : (p : Port) → In p r.ports → All (All Plain) (port_row p)
+  ports_plain : (p : Port) → In p r.ports → AllByRecursion (AllByRecursion Plain) (port_row p)
   ports_plain p i = port_plain p (w.ports_kept p i)
 
   -- of links
-  links_plain : (l : VirtualLink) → In l r.links → All (All Plain) (link_row l)
+  links_plain : (l : VirtualLink) → In l r.links → AllByRecursion (AllByRecursion Plain) (link_row l)
   links_plain l i = link_plain l (w.links_kept l i)
 
   -- of hops
-  hops_plain : (h : Hop) → In h (written_hops r) → All (All Plain) (hop_row h)
+  hops_plain : (h : Hop) → In h (written_hops r) → AllByRecursion (AllByRecursion Plain) (hop_row h)
   hops_plain h i = hop_plain r w h (sorted_tells (written_before r.hops) r.hops h i)
 
   -- the text has these lines
@@ -133,20 +133,20 @@ module _ (r : Records) (w : WellFormed r) where
       (λ t. lines_rows hop_row (written_hops r) t hops_plain)
 
   -- bytes that can stand
-  written_stands : All Stands (written r)
+  written_stands : AllByRecursion Stands (written r)
   written_stands =
       let third : List ℕ = heading_line hops ++ flat_map hop_line (written_hops r) in
       let second : List ℕ = heading_line links ++ flat_map link_line r.links ++ third in
       let first : List ℕ = heading_line ports ++ flat_map port_line r.ports ++ second in
-      let h : All Stands third =
+      let h : AllByRecursion Stands third =
       All-append Stands (heading_line hops) (flat_map hop_line (written_hops r)) (all_stand (heading_line hops) refl)
       (rows_stand hop_row (written_hops r) hops_plain) in
-      let l : All Stands second =
+      let l : AllByRecursion Stands second =
       All-append Stands (heading_line links ++ flat_map link_line r.links) third
       (All-append Stands (heading_line links) (flat_map link_line r.links) (all_stand (heading_line links) refl)
       (rows_stand link_row r.links links_plain))
       h in
-      let p : All Stands first =
+      let p : AllByRecursion Stands first =
       All-append Stands (heading_line ports ++ flat_map port_line r.ports) second
       (All-append Stands (heading_line ports) (flat_map port_line r.ports) (all_stand (heading_line ports) refl)
       (rows_stand port_row r.ports ports_plain))

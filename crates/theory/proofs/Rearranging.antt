@@ -3,7 +3,7 @@
 --   Headed s c         the columns c have a place for each column of the section s, among the fields of a row
 --   Alike s t          the stages s and t are alike but for the columns, and those of s are headed
 use Rattle.std.proofs.Common.{◌≡◌, ℕ, zero, suc, ◌+◌, ◌<◌, Bool, true, false, cond, not, ◌||◌, eqb, List, [], ◌∷◌, length, get_or, Some, None, Ok, Err, Option, Result, unwrap_or, sym, refl, ap, ◌∙◌, subst, inl, inr, arith}
-use Rattle.std.specs.List.{AllByRecursion as All}
+use Rattle.std.specs.List.{AllByRecursion}
 use Rattle.std.specs.Str.{bytes_eq}
 use Rattle.std.proofs.ByRecursion.{All-weaker, All-get_or}
 use Rattle.std.proofs.lemmas.Bool.{and_parts, and_from, or_left, or_right, eqb-true, eq-eqb, not_from_false, cases_Bool}
@@ -23,39 +23,39 @@ use Rattle.theory.proofs.ReadBack.{reading_is, reading_lines_is}
 
 pub record Headed (s : Section) (c : Columns) : Type 0 where
   pub each : length c.at ≡ length (columns_of s)
-  pub inside : All (λ (i : ℕ). i < c.width) c.at
+  pub inside : AllByRecursion (λ (i : ℕ). i < c.width) c.at
 
 -- the places of a name are among the names
-places_inside : (n : List ℕ) (i : ℕ) (fs : List (List ℕ)) → All (λ (j : ℕ). j < i + length fs) (places_of n i fs)
+places_inside : (n : List ℕ) (i : ℕ) (fs : List (List ℕ)) → AllByRecursion (λ (j : ℕ). j < i + length fs) (places_of n i fs)
 places_inside n i [] = tt
 places_inside n i (f ∷ fs) =
     let more = All-weaker (λ (j : ℕ). j < i + 1 + length fs) (λ (j : ℕ). j < i + suc (length fs)) (λ j h. omega arith) (places_of n (i + 1) fs) (places_inside n (i + 1) fs) in
-    elim (bytes_eq f n) as (λ t. All (λ (j : ℕ). j < i + suc (length fs)) (cond t (i ∷ places_of n (i + 1) fs) (places_of n (i + 1) fs))) [
+    elim (bytes_eq f n) as (λ t. AllByRecursion (λ (j : ℕ). j < i + suc (length fs)) (cond t (i ∷ places_of n (i + 1) fs) (places_of n (i + 1) fs))) [
       | true ↦ (omega arith, more)
       | false ↦ more
     ]
 
 -- the only one of a list is of the list
-sole_from : (P : ℕ → Type 0) (xs : List ℕ) (i : ℕ) → sole xs ≡ Some i → All P xs → P i
+sole_from : (P : ℕ → Type 0) (xs : List ℕ) (i : ℕ) → sole xs ≡ Some i → AllByRecursion P xs → P i
 sole_from P [] i e h = absurd (none_some i e)
 sole_from P (x ∷ []) i e h = let q : x ≡ i = cc in subst P q h.0
 sole_from P (x ∷ y ∷ ys) i e h = absurd (none_some i e)
 
 -- each column has a place among the names
 all_places_tell : (cs : List Column) (names : List (List ℕ)) (js : List ℕ) → all_places cs names ≡ Some js
-    → (length js ≡ length cs) × All (λ (i : ℕ). i < length names) js
+    → (length js ≡ length cs) × AllByRecursion (λ (i : ℕ). i < length names) js
 all_places_tell [] names js e =
     let q : [] ≡ js = cc in
-    subst (λ (ks : List ℕ). (length ks ≡ 0) × All (λ (i : ℕ). i < length names) ks) q (refl, tt)
+    subst (λ (ks : List ℕ). (length ks ≡ 0) × AllByRecursion (λ (i : ℕ). i < length names) ks) q (refl, tt)
 all_places_tell (c ∷ cs) names js e = go (sole (places_of c.name 0 names)) refl (all_places cs names) (all_places_tell cs names) e
   where
     go : (o : Option ℕ) → sole (places_of c.name 0 names) ≡ o
-        → (p : Option (List ℕ)) → ((ks : List ℕ) → p ≡ Some ks → (length ks ≡ length cs) × All (λ (i : ℕ). i < length names) ks)
+        → (p : Option (List ℕ)) → ((ks : List ℕ) → p ≡ Some ks → (length ks ≡ length cs) × AllByRecursion (λ (i : ℕ). i < length names) ks)
         → elim o as (λ _. Option (List ℕ)) [
           | Some i ↦ elim p as (λ _. Option (List ℕ)) [ Some ks ↦ Some (i ∷ ks) | None ↦ None ]
           | None ↦ None
         ] ≡ Some js
-        → (length js ≡ suc (length cs)) × All (λ (i : ℕ). i < length names) js
+        → (length js ≡ suc (length cs)) × AllByRecursion (λ (i : ℕ). i < length names) js
     go None x p ih e = absurd (none_some js e)
     go (Some i) x None ih e = absurd (none_some js e)
     go (Some i) x (Some ks) ih e =
@@ -63,7 +63,7 @@ all_places_tell (c ∷ cs) names js e = go (sole (places_of c.name 0 names)) ref
         let (long, low) = ih ks refl in
         let here : i < length names = sole_from (λ (j : ℕ). j < length names) (places_of c.name 0 names) i x
         (All-weaker (λ (j : ℕ). j < 0 + length names) (λ (j : ℕ). j < length names) (λ j h. omega arith) (places_of c.name 0 names) (places_inside c.name 0 names)) in
-        subst (λ (ms : List ℕ). (length ms ≡ suc (length cs)) × All (λ (j : ℕ). j < length names) ms) q (ap suc long, (here, low))
+        subst (λ (ms : List ℕ). (length ms ≡ suc (length cs)) × AllByRecursion (λ (j : ℕ). j < length names) ms) q (ap suc long, (here, low))
 
 -- a heading that is read is headed
 heading_tells : (s : Section) (fs : List (List ℕ)) (c : Columns) → heading_in s fs ≡ Some c → Headed s c

@@ -3,7 +3,7 @@
 --   port_row, link_row, hop_row     the fields of a row
 --   port_columns, link_columns, hop_columns     the headings as they are written
 use Rattle.std.proofs.Common.{◌≡◌, ℕ, ◌≤◌, Bool, true, false, cond, List, [], ◌∷◌, ◌++◌, map, Some, None, Ok, codes, decimal, Option, unwrap_or, sym, refl, ap, ◌∙◌, inl, arith}
-use Rattle.std.specs.List.{AllByRecursion as All}
+use Rattle.std.specs.List.{AllByRecursion}
 use Rattle.std.specs.Str.{bytes_eq}
 use Rattle.std.proofs.lemmas.Slice.Eq.{bytes_eq-Decides}
 use Rattle.definitions.specs.declared.network.PortKind.{PortKind}
@@ -86,7 +86,7 @@ hop_fields h a b c x y z n =
 -- ## Ports
 
 -- the fields of a port's row
-pub port_plain : (p : Port) → PortKept p → All (All Plain) (port_row p)
+pub port_plain : (p : Port) → PortKept p → AllByRecursion (AllByRecursion Plain) (port_row p)
 port_plain p k =
     (plain_decimal p.number (omega (arith, k.number_most)), (plain_kind p.kind, (plain_decimal p.rate (omega (arith, k.rate_known)), tt)))
 
@@ -123,7 +123,7 @@ bag_most : (g : ℕ) → In g bags → g ≤ 65535
 bag_most g i = omega arith
 
 -- the fields of a link's row
-pub link_plain : (l : VirtualLink) → LinkKept l → All (All Plain) (link_row l)
+pub link_plain : (l : VirtualLink) → LinkKept l → AllByRecursion (AllByRecursion Plain) (link_row l)
 link_plain l k = (
   plain_decimal l.number k.number_most,
   (
@@ -184,7 +184,7 @@ hop_after_most r w h i q e =
     omega (arith, hop_port_most r w k j)
 
 -- the fields of a hop's row
-pub hop_plain : (r : Records) → WellFormed r → (h : Hop) → In h r.hops → All (All Plain) (hop_row h)
+pub hop_plain : (r : Records) → WellFormed r → (h : Hop) → In h r.hops → AllByRecursion (AllByRecursion Plain) (hop_row h)
 hop_plain r w h i = (
   plain_decimal h.link (hop_link_most r w h i),
   (

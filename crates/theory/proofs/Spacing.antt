@@ -6,7 +6,7 @@
 --   come arr v p x y hs fs    the sum of v over the frames that arrive in it at the port p, by the hops hs
 --   Paced arr n E L x y fs    the frames of the link n that arrive in it do so between E and L after their release
 use Rattle.std.proofs.Common.{◌≡◌, ℕ, zero, suc, ◌+◌, ◌-◌, ◌*◌, ◌/◌, ◌<◌, ◌≤◌, Bool, cond, ◌&&◌, eqb, ltb, leb, List, [], ◌∷◌, filter, sym, refl, ap, ◌∙◌, inl, inr, arith}
-use Rattle.std.specs.List.{AllByRecursion as All}
+use Rattle.std.specs.List.{AllByRecursion}
 use Rattle.std.proofs.lemmas.Bool.{cases_Bool, cases_lt, eqb-true}
 use Rattle.std.proofs.lemmas.Bool.Decides.{nat_tests}
 use Rattle.definitions.specs.declared.network.Hop.{Hop}
@@ -27,7 +27,7 @@ gap_at r n = gap_of (find_link r.links n)
 
 -- beside a frame of the link, no other is released within a gap
 pub slot_apart : (r : Records) (n lo : ℕ) (f : Frame) → n ≡ f.link → lo ≤ f.release → f.release < lo + gap_at r n
-    → (fs : List Frame) → All (Apart r f) fs → slot n lo (lo + gap_at r n) fs ≡ 0
+    → (fs : List Frame) → AllByRecursion (Apart r f) fs → slot n lo (lo + gap_at r n) fs ≡ 0
 slot_apart r n lo f e from before [] a = refl
 slot_apart r n lo f e from before (g ∷ fs) a =
     let i = slot_apart r n lo f e from before fs a.1 in

@@ -1,6 +1,6 @@
 -- Gathering the loads of a port.
 use Rattle.std.proofs.Common.{◌≡◌, ℕ, ◌+◌, ◌<◌, ◌≤◌, true, cond, eqb, List, [], ◌∷◌, ◌++◌, map, length, get_or, take, drop, set, Some, None, filter, sym, refl, ap, ◌∙◌, inl, inr, arith}
-use Rattle.std.specs.List.{AllByRecursion as All}
+use Rattle.std.specs.List.{AllByRecursion}
 use Rattle.working_out.specs.declared.rows.PortRow.{PortRow}
 use Rattle.std.proofs.lemmas.List.{length-set, take_more_set, map-append, append-nil, take_all, drop_more, take-append-drop}
 use Rattle.std.proofs.lemmas.List.Elements.{filter_more}
@@ -79,7 +79,7 @@ all_gathered rs p hs i before ls n le ge (same, most, so_far) = record {
 }
 
 -- the first row of which P holds stands after rows of which it does not
-pub first_here : (P : PortRow → Type 0) (ps : List PortRow) (i : ℕ) (d : PortRow) → i < length ps → All (λ x. ¬ P x) (take i ps) → P (get_or ps i d)
+pub first_here : (P : PortRow → Type 0) (ps : List PortRow) (i : ℕ) (d : PortRow) → i < length ps → AllByRecursion (λ x. ¬ P x) (take i ps) → P (get_or ps i d)
     → FirstIs P ps (get_or ps i d).port.number
 first_here P ps i d lt none here = record {
   before = take i ps;

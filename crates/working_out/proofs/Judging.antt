@@ -1,6 +1,6 @@
 -- What is said of ports of which no more can be worked out.
 use Rattle.std.proofs.Common.{◌≡◌, ℕ, ◌⊎◌, List, Option, sym, refl, ap, ◌∙◌, subst, inl, inr}
-use Rattle.std.specs.List.{AllByRecursion as All}
+use Rattle.std.specs.List.{AllByRecursion}
 use Rattle.definitions.specs.declared.loads.Load.{Load}
 use Rattle.definitions.specs.declared.network.Port.{Port}
 use Rattle.definitions.specs.Lists.{In}
@@ -39,7 +39,7 @@ module _ (r : Records) (worth : List Load → ℕ) (s : Setting r worth) (ps : L
   in_ports x i = subst (In x.port) k.worked.held.ports (in_map (λ (z : PortRow). z.port) ps x i)
 
   -- without a port that waits there is no ring
-  pub none_waits : All (λ (x : PortRow). ¬ (x.progress ≡ Waiting)) ps → NoPort r (InRing r)
+  pub none_waits : AllByRecursion (λ (x : PortRow). ¬ (x.progress ≡ Waiting)) ps → NoPort r (InRing r)
   none_waits none p i =
       let (x, j, e) = row_of p i in
       subst (λ (q : Port). ¬ InRing r q.number) (sym e) (elim (cases_progress x.progress) [

@@ -3,7 +3,7 @@
 --   SelfFed hs x         the port of the row x feeds itself by the hops of the rows hs
 --   NoneBefore hs t i u  no port before the place i of t does, and u is t but for the marks, where t is in order
 use Rattle.std.proofs.Common.{◌≡◌, ℕ, ◌+◌, ◌<◌, ◌≤◌, Bool, true, false, List, map, length, get_or, take, Some, None, Decides, Option, sym, refl, ap, ◌∙◌, subst, arith}
-use Rattle.std.specs.List.{AllByRecursion as All, slice_get}
+use Rattle.std.specs.List.{AllByRecursion, slice_get}
 use Rattle.std.proofs.ByRecursion.{All-more}
 use Rattle.std.proofs.lemmas.List.{get_or-map, length-map, take_all}
 use Rattle.std.proofs.lemmas.Bool.{both_ways}
@@ -30,7 +30,7 @@ abbrev pub SelfFed : List HopRow → PortRow → Type 0
 SelfFed hs x = FedBy hs (port_key x) (port_key x)
 
 abbrev pub NoneBefore : List HopRow → Table PortRow → ℕ → Table PortRow → Type 0
-NoneBefore hs t i u = Remarked t u × (Ordered number_before port_key t → Homed (rows t) hs → All (λ x. ¬ SelfFed hs x) (take i (rows t)))
+NoneBefore hs t i u = Remarked t u × (Ordered number_before port_key t → Homed (rows t) hs → AllByRecursion (λ x. ¬ SelfFed hs x) (take i (rows t)))
 
 -- ## Rows and records
 
@@ -106,4 +106,4 @@ module _ (hs : List HopRow) (t u : Table PortRow) (i : ℕ) (none : NoneBefore h
 
   -- after the last place
   pub no_ring : length (rows t) ≤ i → FindsRing hs t u None
-  no_ring le = ring_told hs t u None none.0 (λ up h. subst (All (λ x. ¬ SelfFed hs x)) (take_all i (rows t) le) (none.1 up h))
+  no_ring le = ring_told hs t u None none.0 (λ up h. subst (AllByRecursion (λ x. ¬ SelfFed hs x)) (take_all i (rows t) le) (none.1 up h))

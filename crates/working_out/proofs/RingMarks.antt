@@ -1,6 +1,6 @@
 -- RingMarks: the ports that a port feeds, marked in their rows.
 use Rattle.std.proofs.Common.{◌≡◌, ℕ, ◌+◌, ◌<◌, ◌≤◌, Bool, true, false, cond, ◌||◌, List, [], ◌∷◌, ◌++◌, map, length, Some, None, Decides, sym, refl, ap, ◌∙◌, subst, inl, inr, arith}
-use Rattle.std.specs.List.{AllByRecursion as All}
+use Rattle.std.specs.List.{AllByRecursion}
 use Rattle.std.proofs.lemmas.Bool.{both_ways, false≢true}
 use Rattle.std.proofs.ByRecursion.{All-push}
 use Rattle.std.proofs.lemmas.Bool.Decides.{nat_tests}
@@ -211,7 +211,7 @@ module _ (hs : List HopRow) (p : ℕ) (t u : Table PortRow) (i : ℕ) (so_far : 
     sound = λ up old. pass.sound (so_far.0.kept.order up) hs (λ h j. j) (so_far.1 up old);
     passed = λ up.
         let (same, all) = pass.comes (so_far.0.kept.order up) in
-        subst (λ (w : Table PortRow). All (Passed p (rows w)) hs) (sym same) all;
+        subst (λ (w : Table PortRow). AllByRecursion (Passed p (rows w)) hs) (sym same) all;
   }
 
   -- after as many passes as there are rows all are marked
@@ -235,7 +235,7 @@ cleared hs p t u h =
     )
 
 -- where every hop is passed, all that a reached port feeds is marked
-fed_marked : (hs : List HopRow) (p : ℕ) (xs : List PortRow) → Homed xs hs → All (Passed p xs) hs → {q n : ℕ} → FedBy hs q n → Reached p xs q → Marked xs n
+fed_marked : (hs : List HopRow) (p : ℕ) (xs : List PortRow) → Homed xs hs → AllByRecursion (Passed p xs) hs → {q n : ℕ} → FedBy hs q n → Reached p xs q → Marked xs n
 fed_marked hs p xs homed passed (direct {q = q} f) reached =
     let (h, i, e) = map_in (λ (x : HopRow). x.hop) hs f.hop f.there in
     let (x, j, k) = homed h i in

@@ -8,7 +8,7 @@
 --   FirstPort P ps r      r is the number of the first row of which P holds, if there is one
 
 use Rattle.std.specs.Prelude.{◌≡◌, ℕ, ◌-◌, ◌≤◌, true, List, ◌∷◌, ◌++◌, map, length, take, Some, None, filter, Option, nat_eq}
-use Rattle.std.specs.List.{AllByRecursion as All}
+use Rattle.std.specs.List.{AllByRecursion}
 use Rattle.definitions.specs.Lists.{ascending}
 use Rattle.register.specs.Tables.{by_key}
 use Rattle.working_out.specs.Keys.{number_before, link_key}
@@ -48,10 +48,10 @@ pub record FirstIs (P : PortRow → Type 0) (ps : List PortRow) (n : ℕ) : Type
   pub row : PortRow
   pub rest : List PortRow
   pub parts : ps ≡ before ++ (row ∷ rest)
-  pub none_before : All (λ x. ¬ P x) before
+  pub none_before : AllByRecursion (λ x. ¬ P x) before
   pub holds : P row
   pub number : row.port.number ≡ n
 
 abbrev pub FirstPort : (PortRow → Type 0) → List PortRow → Option ℕ → Type 0
 FirstPort P ps (Some n) = FirstIs P ps n
-FirstPort P ps None = All (λ x. ¬ P x) ps
+FirstPort P ps None = AllByRecursion (λ x. ¬ P x) ps

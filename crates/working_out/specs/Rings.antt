@@ -22,7 +22,7 @@
 -- Only that a table is kept is promised of a table that is not in order.
 
 use Rattle.std.specs.Prelude.{◌≡◌, ℕ, ◌<◌, Bool, true, false, cond, ◌⊎◌, List, [], map, Some, None, Decides, Option}
-use Rattle.std.specs.List.{AllByRecursion as All}
+use Rattle.std.specs.List.{AllByRecursion}
 use Rattle.definitions.specs.Lists.{In, total}
 use Rattle.definitions.specs.Network.{Records, WellFormed, Feeds, InRing}
 use Rattle.definitions.specs.WorkingOut.{NoPort, Lowest}
@@ -77,7 +77,7 @@ Passed p xs h =
 
 abbrev pub Comes : List HopRow → ℕ → Table PortRow → Table PortRow → Bool → Type 0
 Comes hs p t u true = unmarked_count (rows u) < unmarked_count (rows t)
-Comes hs p t u false = (u ≡ t) × All (Passed p (rows t)) hs
+Comes hs p t u false = (u ≡ t) × AllByRecursion (Passed p (rows t)) hs
 
 pub record Spreads (hs : List HopRow) (p : ℕ) (t u : Table PortRow) (added : Bool) : Type 0 where
   pub remarked : Remarked t u
@@ -87,7 +87,7 @@ pub record Spreads (hs : List HopRow) (p : ℕ) (t u : Table PortRow) (added : B
 pub record SpreadsAll (hs : List HopRow) (p : ℕ) (t u : Table PortRow) : Type 0 where
   pub remarked : Remarked t u
   pub sound : Ordered number_before port_key t → Sound hs p (rows t) → Sound hs p (rows u)
-  pub passed : Ordered number_before port_key t → All (Passed p (rows u)) hs
+  pub passed : Ordered number_before port_key t → AllByRecursion (Passed p (rows u)) hs
 
 -- ## Rings
 

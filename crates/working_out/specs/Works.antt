@@ -9,7 +9,7 @@
 --   Works                what a working-out over the rows answers and leaves
 
 use Rattle.std.specs.Prelude.{◌≡◌, ℕ, ◌≤◌, List, map, length, Some, None, Ok, Err, Option, Result}
-use Rattle.std.specs.List.{AllByRecursion as All}
+use Rattle.std.specs.List.{AllByRecursion}
 use Rattle.definitions.specs.declared.loads.Load.{Load}
 use Rattle.definitions.specs.declared.refusals.Refusal.{Refusal}
 use Rattle.definitions.specs.Network.{Records}
@@ -25,12 +25,12 @@ use Rattle.working_out.specs.Keys.{number_before, place_before, port_key, hop_ke
 use Rattle.working_out.specs.Settling.{Holds}
 
 pub record Shown (r : Records) (F : Figures) (ps : List PortRow) (hs : List HopRow) : Type 0 where
-  pub ports : All (λ (x : PortRow). (x.backlog ≡ F.backlog x.port.number) × (x.depth ≡ depth r F x.port.number)) ps
-  pub hops : All (λ (y : HopRow). (y.earliest ≡ earliest_at F y.hop) × (y.latest ≡ latest_at F y.hop)) hs
+  pub ports : AllByRecursion (λ (x : PortRow). (x.backlog ≡ F.backlog x.port.number) × (x.depth ≡ depth r F x.port.number)) ps
+  pub hops : AllByRecursion (λ (y : HopRow). (y.earliest ≡ earliest_at F y.hop) × (y.latest ≡ latest_at F y.hop)) hs
 
 pub record Zero (ps : List PortRow) (hs : List HopRow) : Type 0 where
-  pub ports : All (λ (x : PortRow). (x.backlog ≡ 0) × (x.depth ≡ 0)) ps
-  pub hops : All (λ (y : HopRow). (y.earliest ≡ 0) × (y.latest ≡ 0)) hs
+  pub ports : AllByRecursion (λ (x : PortRow). (x.backlog ≡ 0) × (x.depth ≡ 0)) ps
+  pub hops : AllByRecursion (λ (y : HopRow). (y.earliest ≡ 0) × (y.latest ≡ 0)) hs
 
 -- every figure is zero, and nothing else changed
 pub record Cleared (t : Table PortRow) (h : Table HopRow) (u : Table PortRow) (k : Table HopRow) : Type 0 where

@@ -1,7 +1,7 @@
 use Rattle.std.proofs.Common.{◌≡◌, ℕ, sym, refl, ◌∙◌, subst, arith}
 use Rattle.std.proofs.ByRecursion.{All-more}
 use Rattle.std.proofs.lemmas.List.{take_all}
-use Rattle.std.specs.List.{AllByRecursion as All}
+use Rattle.std.specs.List.{AllByRecursion}
 use Rattle.definitions.specs.Windows.{Overloaded}
 use Rattle.register.specs.Tables.{rows}
 use Rattle.working_out.specs.Gathering.{OverloadedRow}
@@ -25,5 +25,5 @@ loop-row-preserved c = (
 pub returns : goal.returns
 returns c = record {
   places = c.loop-row.invariant.0;
-  first = λ up. subst (All (λ x. ¬ OverloadedRow (rows c.args.links.now) c.args.hops.now x)) (take_all c.loop-row.row-index c.args.ports.now c.loop-row-test.false) (c.loop-row.invariant.1 up);
+  first = λ up. subst (AllByRecursion (λ x. ¬ OverloadedRow (rows c.args.links.now) c.args.hops.now x)) (take_all c.loop-row.row-index c.args.ports.now c.loop-row-test.false) (c.loop-row.invariant.1 up);
 }

@@ -1,5 +1,5 @@
 use Rattle.std.proofs.Common.{◌≡◌, subst, rules}
-use Rattle.std.specs.List.{AllByRecursion as All}
+use Rattle.std.specs.List.{AllByRecursion}
 use Rattle.std.proofs.ByRecursion.{All-more}
 use Rattle.std.proofs.lemmas.List.{take_all}
 use Rattle.definitions.specs.declared.network.PortKind.TheVariants.{End}
@@ -19,4 +19,4 @@ loop-row-preserved c =
 
 pub returns : goal.returns
 returns c =
-    subst (All (λ (x : PortRow). ¬ (x.progress ≡ c.args.progress))) (take_all c.loop-row.row-index c.args.ports.now c.loop-row-test.false) c.loop-row.invariant
+    subst (AllByRecursion (λ (x : PortRow). ¬ (x.progress ≡ c.args.progress))) (take_all c.loop-row.row-index c.args.ports.now c.loop-row-test.false) c.loop-row.invariant

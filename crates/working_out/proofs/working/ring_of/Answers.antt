@@ -1,5 +1,5 @@
 use Rattle.std.proofs.Common.{◌≡◌, sym, subst}
-use Rattle.std.specs.List.{AllByRecursion as All}
+use Rattle.std.specs.List.{AllByRecursion}
 use Rattle.working_out.specs.declared.rows.PortRow.{PortRow}
 use Rattle.working_out.specs.declared.rows.Progress.TheVariants.{Waiting}
 use Rattle.working_out.specs.Rings.{RingTold}
@@ -12,7 +12,7 @@ returns-in_err-first_with c = record {
   remarked = remarked_same c.args.ports.now;
   told = λ r worth ls s k. subst (RingTold r) (sym c.from_residual.ensures)
       (ring_none c.args.ports.now c.args.hops.now
-      (subst (All (λ (x : PortRow). ¬ (x.progress ≡ Waiting))) c.all.ensures c.in_err-first_with.ensures) r worth ls s k);
+      (subst (AllByRecursion (λ (x : PortRow). ¬ (x.progress ≡ Waiting))) c.all.ensures c.in_err-first_with.ensures) r worth ls s k);
 }
 
 pub returns : goal.returns
