@@ -8,7 +8,7 @@
 --   Fits c            the arguments are of their types: what a caller can pass
 --   After s c a t     in the state s the call c answers a and leaves the state t
 --   Runs s cs as t    from s the calls cs, one after another, answer as and leave t
---   nth xs i          the item at the place i, counted from 0; none past the last (of the standard library)
+--   slice_get xs i    the item at the place i, counted from 0; none past the last (of the standard library)
 --   Standing s        while figures stand in s, the working-out that served succeeds on its records
 
 use Rattle.std.specs.Prelude.{◌≡◌, ℕ, ◌≤◌, Bool, true, false, cond, not, ◌&&◌, List, [], ◌∷◌, length, Some, None, Ok, Err, Option, Result, ◌==◌, nat_le}
