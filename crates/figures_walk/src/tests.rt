@@ -78,13 +78,12 @@ fn a_load_table_one_place_short(rt: HostRuntime) {
     }; 1];
     let mut hops = [HopRow::new(hop(0, 0, None)); 2];
     let mut loads = [no_load(); 2];
-    let mut short = [no_load(); 1];
     let mut book = Book::open(&mut ports, &mut links, &mut hops);
     assert_eq!(rt; enter_chain(&mut book, 1, 64, 1_250, &[1, 2]), Ok(()));
     assert_eq!(rt; book.work_out(&Forward, &mut loads), Ok(()));
     assert_eq!(rt; book.delay(1), Ok(2_964_800));
     assert_eq!(rt;
-        book.work_out(&Forward, &mut short),
+        book.work_out(&Forward, &mut loads[..1]),
         Err(Refusal::LoadTableShort)
     );
     assert_eq!(rt; book.delay(1), Err(Refusal::NoFigures));
