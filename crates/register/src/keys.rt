@@ -8,7 +8,8 @@ ghost use Rattle.register.specs.Pairs.{pairs_exactly_one, pairs_carry};
 use std::cmp::Ordering;
 
 // What records are kept in order by. Of two keys exactly one holds: the first is before the second, they are
-// the same, or the second is before the first; and before carries over.
+// the same, or the second is before the first; and before carries over. `std::cmp::Ord` says less: keys that it calls
+// equal need not be the same.
 pub trait Key: Copy {
     ghost before: { Self → Self → Bool };
 
@@ -33,6 +34,7 @@ impl Key for u8 {
     }
 }
 
+// As for u8: one impl for both would need a trait of all unsigned numbers, and be no plainer.
 impl Key for u16 {
     ghost before = { nat_lt };
 
@@ -54,10 +56,7 @@ impl<A1: Key, B1: Key> Key for (A1, B1) {
     ghost transitive = { pairs_carry A1.Key.before B1.Key.before A1.Key.trichotomy B1.Key.trichotomy A1.Key.transitive B1.Key.transitive };
 
     fn against(self, other: (A1, B1)) -> Ordering {
-        match self.0.against(other.0) {
-            Ordering::Equal => self.1.against(other.1),
-            unequal => unequal,
-        }
+        self.0.against(other.0).then(self.1.against(other.1))
     }
 }
 

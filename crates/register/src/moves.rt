@@ -1,33 +1,22 @@
-// Moving the elements of a slice whose first `count` places are in use.
-ghost use Rattle.std.specs.Prelude.{◌≡◌, ◌+◌, ◌-◌, ◌<◌, ◌≤◌, ◌++◌, length, take, drop, slice_set};
+// Moving the elements of a slice.
+ghost use Rattle.std.specs.Prelude.{◌≡◌, ◌-◌, ◌<◌, ◌≤◌, ◌++◌, length, take, drop};
 ghost use Rattle.std.specs.List.{insert};
 
-// Puts an item in the place of another.
-pub(crate) fn write_at<T: Copy>(places: &mut [T], place: usize, item: T)
+// Puts an item in at a place; those from there on move up by one, and the last falls out.
+pub(crate) fn insert_at<T: Copy>(places: &mut [T], place: usize, item: T)
     requires { place < length places.old }
-    ensures { places.new ≡ slice_set places.old place item }
+    ensures { places.new ≡ insert (take (length places.old - 1) places.old) place item }
 {
-    places[place] = item;
+    let last = places.len() - 1;
+    places[last] = item;
+    places[place..].rotate_right(1);
 }
 
-// Puts an item in at a place; those from there on move up by one. At the end none moves.
-pub(crate) fn insert_at<T: Copy>(places: &mut [T], place: usize, count: usize, item: T)
-    requires within { place ≤ count }
-    requires room { count < length places.old }
-    ensures { take (count + 1) places.new ≡ insert (take count places.old) place item }
-{
-    places[count] = item;
-    let part = &mut places[place..count + 1];
-    part.rotate_right(1);
-}
-
-// Takes out the items from one place to before another; those after them move down.
-pub(crate) fn remove_between<T: Copy>(places: &mut [T], from: usize, to: usize, count: usize)
+// Takes the items from one place to before another to the end; those after them move down.
+pub(crate) fn remove_between<T: Copy>(places: &mut [T], from: usize, to: usize)
     requires run { from ≤ to }
-    requires within { to ≤ count }
-    requires room { count ≤ length places.old }
-    ensures { take (count - (to - from)) places.new ≡ take from (take count places.old) ++ drop to (take count places.old) }
+    requires within { to ≤ length places.old }
+    ensures { take (length places.old - (to - from)) places.new ≡ take from places.old ++ drop to places.old }
 {
-    let part = &mut places[from..count];
-    part.rotate_left(to - from);
+    places[from..].rotate_left(to - from);
 }

@@ -1,38 +1,26 @@
-// What can be done with an ordered table. A call on a table that is not ordered is safe; that the answer of a
-// search is right, and that the order is kept, is promised where there is an order.
-ghost use Rattle.std.specs.Prelude.{◌≡◌, ◌+◌, ◌≤◌, true, [], length};
+// What can be done with an ordered table.
+ghost use Rattle.std.specs.Prelude.{◌≡◌, ◌+◌, ◌≤◌, [], length};
 ghost use Rattle.std.specs.List.{slice_get};
-ghost use Rattle.definitions.specs.Lists.{ascending};
-ghost use Rattle.register.specs.Tables.{rows, room, by_key, Ordered, Found, Starts, Getting, Within, Kept, Inserting, Replacing, Removing};
+ghost use Rattle.register.specs.Orders.{compare};
 
 use crate::keys::{Key, Keyed};
-use crate::moves::{insert_at, remove_between, write_at};
-use crate::tables::{Insertion, Table};
+use crate::moves::{insert_at, remove_between};
+use crate::tables::{NotInserted, Table};
 use std::cmp::Ordering;
 
-// The place of the record under the key, or the place where one would be put in. Each turn halves what is left.
-fn search<R: Keyed>(records: &[R], key: R::K) -> Result<usize, usize>
-    ensures found { ascending (by_key R.K.Key.before R.Keyed.key) records.now ≡ true → Found R.K.Key.before R.Keyed.key records.now key result }
-    ensures within { Within (length records.now) result }
+// How the key of a record stands to this one.
+fn stands<R: Keyed>(row: &R, key: R::K) -> Ordering
+    ensures { result ≡ compare R.K.Key.before (R.Keyed.key row.now) key }
 {
-    let mut low = 0;
-    let mut high = records.len();
-    while low < high {
-        let middle = low + (high - low) / 2;
-        match records[middle].key().against(key) {
-            Ordering::Less => low = middle + 1,
-            Ordering::Equal => return Ok(middle),
-            Ordering::Greater => high = middle,
-        }
-    }
-    Err(low)
+    row.key().against(key)
 }
 
 impl<'a, R: Keyed> Table<'a, R> {
+    ghost use Rattle.register.specs.Tables.{rows, room, Found, Starts, Getting, Within, Inserting, Replacing, Removing};
+
     // An empty table over the places.
     pub fn open(places: &'a mut [R]) -> Table<'a, R>
         ensures empty { rows result ≡ [] }
-        ensures fits { result.len ≤ room result }
         ensures all_places { room result ≡ length places.old }
     {
         Table { places, len: 0 }
@@ -43,16 +31,15 @@ impl<'a, R: Keyed> Table<'a, R> {
         ensures is { result ≡ length (rows self.now) }
         ensures bound { result ≤ room self.now }
     {
-        self.len.min(self.places.len())
+        self.all().len()
     }
 
     // The records, in order.
     pub fn all(&self) -> &[R]
         ensures { result.now ≡ rows self.now }
     {
-        let count = self.count();
-        let rows: &[R] = &*self.places;
-        &rows[0..count]
+        let places: &[R] = &*self.places;
+        &places[..self.len]
     }
 
     // The record at a place, counted from 0; none past the last.
@@ -64,48 +51,44 @@ impl<'a, R: Keyed> Table<'a, R> {
 
     // The place of the record under the key, or the place where one would be put in.
     pub fn find(&self, key: R::K) -> Result<usize, usize>
-        ensures found { Ordered R.K.Key.before R.Keyed.key self.now → Found R.K.Key.before R.Keyed.key (rows self.now) key result }
+        ensures found { Found R.K.Key.before R.Keyed.key (rows self.now) key result }
         ensures within { Within (length (rows self.now)) result }
     {
-        search(self.all(), key)
+        self.all().binary_search_by(|record| stands(record, key))
     }
 
     // The place from which on no key is before this one.
     pub fn start_of(&self, key: R::K) -> usize
-        ensures { Ordered R.K.Key.before R.Keyed.key self.now → Starts R.K.Key.before R.Keyed.key (rows self.now) key result }
+        ensures { Starts R.K.Key.before R.Keyed.key (rows self.now) key result }
     {
-        match self.find(key) {
-            Ok(place) => place,
-            Err(place) => place,
-        }
+        self.all()
+            .partition_point(|record| stands(record, key).is_lt())
     }
 
     // The record under the key, if there is one.
     pub fn get(&self, key: R::K) -> Option<R>
-        ensures { Ordered R.K.Key.before R.Keyed.key self.now → Getting R.Keyed.key (rows self.now) key result }
+        ensures { Getting R.Keyed.key (rows self.now) key result }
     {
-        match self.find(key) {
-            Ok(place) => self.at(place),
-            Err(_) => None,
-        }
+        let place = self.find(key).ok()?;
+        self.at(place)
     }
 
     // Puts a record in its place among the others, unless one under its key is there or the table is full:
     // it has no place left, or holds as many records as it may.
-    pub fn insert(&mut self, record: R, most: usize) -> Insertion
-        ensures inserts { Ordered R.K.Key.before R.Keyed.key self.old → Inserting R.K.Key.before R.Keyed.key most «record» self.old self.new result }
-        ensures kept { Kept R.K.Key.before R.Keyed.key self.old self.new }
+    pub fn insert(&mut self, record: R, most: usize) -> Result<(), NotInserted>
+        ensures inserts { Inserting R.K.Key.before R.Keyed.key most «record» self.old self.new result }
+        ensures same_room { room self.new ≡ room self.old }
     {
         let Err(place) = self.find(record.key()) else {
-            return Insertion::Present;
+            return Err(NotInserted::Present);
         };
-        let count = self.count();
+        let count = self.len;
         if count >= self.places.len().min(most) {
-            return Insertion::Full;
+            return Err(NotInserted::Full);
         }
-        insert_at(self.places, place, count, record);
+        insert_at(&mut self.places[..count + 1], place, record);
         self.len = count + 1;
-        Insertion::Added
+        Ok(())
     }
 
     // Puts a record in the place of one under the same key.
@@ -115,24 +98,22 @@ impl<'a, R: Keyed> Table<'a, R> {
         let Some(old) = self.at(place) else {
             return false;
         };
-        match old.key().against(record.key()) {
-            Ordering::Equal => {
-                write_at(self.places, place, record);
-                true
-            }
-            _ => false,
+        if stands(&old, record.key()).is_ne() {
+            return false;
         }
+        self.places[place] = record;
+        true
     }
 
     // Removes the records from one place to before another.
     pub fn remove_run(&mut self, from: usize, to: usize) -> bool
         ensures { Removing R.K.Key.before R.Keyed.key from to self.old self.new result }
     {
-        let count = self.count();
+        let count = self.len;
         if to < from || count < to {
             return false;
         }
-        remove_between(self.places, from, to, count);
+        remove_between(&mut self.places[..count], from, to);
         self.len = count - (to - from);
         true
     }
@@ -141,7 +122,7 @@ impl<'a, R: Keyed> Table<'a, R> {
     pub fn remove_one(&mut self, place: usize) -> bool
         ensures { Removing R.K.Key.before R.Keyed.key place (place + 1) self.old self.new result }
     {
-        if place >= self.count() {
+        if place >= self.len {
             return false;
         }
         self.remove_run(place, place + 1)
@@ -150,7 +131,7 @@ impl<'a, R: Keyed> Table<'a, R> {
     // Removes all records.
     pub fn clear(&mut self)
         ensures empty { rows self.new ≡ [] }
-        ensures kept { Kept R.K.Key.before R.Keyed.key self.old self.new }
+        ensures same_room { room self.new ≡ room self.old }
     {
         self.len = 0;
     }

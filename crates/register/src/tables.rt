@@ -1,17 +1,22 @@
 // The table itself.
+ghost use Rattle.std.specs.Prelude.{◌≡◌, ◌≤◌, true, length, take};
+ghost use Rattle.definitions.specs.Lists.{ascending};
+ghost use Rattle.register.specs.Orders.{by_key};
 
-// Records over lent places: the first `len` places are in use. A table in a struct that keeps it ordered
-// and within its places stays so: see `Kept` in specs/Tables.antt.
+use crate::keys::Keyed;
+
+// Records over lent places: the first `len` places are in use, and their keys ascend.
 #[derive(Drop)]
-pub struct Table<'a, R> {
-    pub places: &'a mut [R],
-    pub len: usize,
+pub struct Table<'a, R: Keyed> {
+    pub(crate) places: &'a mut [R],
+    pub(crate) len: usize,
+    ghost within: { len ≤ length places.now },
+    ghost ascends: { ascending (by_key R.K.Key.before R.Keyed.key) (take len places.now) ≡ true },
 }
 
-// What inserting a record came to.
+// Why a record was not put in.
 #[derive(Clone, Copy, PartialEq, Eq, Debug)]
-pub enum Insertion {
-    Added,
+pub enum NotInserted {
     // a record under the same key is there
     Present,
     // there is no place left

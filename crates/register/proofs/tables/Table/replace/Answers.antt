@@ -1,21 +1,41 @@
-use Rattle.std.proofs.Common.{refl, arith, length-take}
-use Rattle.register.proofs.Exits.{some_within, no_record, other_key, replaced}
+use Rattle.std.proofs.Common.{refl, sym, ap, ◌∙◌, arith, rules, length-take, length-set}
+use Rattle.definitions.specs.Lists.{ascending}
+use Rattle.register.specs.Orders.{by_key}
+use Rattle.register.specs.Tables.{rows}
+use Rattle.register.proofs.Exits.{some_within, no_record, other_key, same_key, rows_set}
+use Rattle.register.proofs.Sorted.{set_ascends}
 use Rattle.register.proofs.tables.Table.replace.Goals as goal
 
 pub returns-in_default : goal.returns-in_default
-returns-in_default g c = no_record g.R.K.Key.before g.R.Keyed.key c.args.self.now c.args.place c.args.record c.in_default.ensures
+returns-in_default g c = (refl, λ l. absurd (no_record (rows c.args.self.now) c.args.place c.args.record c.in_default.ensures l))
 
-pub write_at-requires : goal.write_at-requires
-write_at-requires g c =
+pub returns-then-is_ne : goal.returns-then-is_ne
+returns-then-is_ne g c = (
+  refl,
+  λ l. other_key g.R.K.Key.before g.R.Keyed.key g.met.R.K.Key.trichotomy (rows c.args.self.now) c.args.place c.args.record c.in-Some.old c.key.result
+      c.in-Some.ensures c.key.ensures c.stands.result c.stands.ensures (sym c.is_ne.ensures ∙ c.if-is_ne.true),
+)
+
+pub bounds-self-place : goal.bounds-self-place
+bounds-self-place g c =
     let l = some_within _ c.args.place c.in-Some.old c.in-Some.ensures in
     omega (arith, length-take c.args.self.now.len c.args.self.now.places.now)
 
-pub returns-in-Equal : goal.returns-in-Equal
-returns-in-Equal g c =
-    replaced g.R.K.Key.before g.R.Keyed.key c.args.self.now c.args.place c.args.record c.in-Some.old c.key.result c.key-2.result
-    c.in-Some.ensures c.key.ensures c.key-2.ensures c.in-Equal.ensures _ c.write_at.auto.places refl c.write_at.ensures
+pub invariant_of-self-clause-ascends : goal.invariant_of-self-clause-ascends
+invariant_of-self-clause-ascends g c =
+    let t = c.args.self.now in
+    let same = same_key g.R.K.Key.before g.R.Keyed.key g.met.R.K.Key.trichotomy (rows t) c.args.place c.args.record c.in-Some.old c.key.result
+    c.in-Some.ensures c.key.ensures c.stands.result c.stands.ensures (sym c.is_ne.ensures ∙ c.if-is_ne.false) in
+    ap (ascending (by_key g.R.K.Key.before g.R.Keyed.key)) (rows_set t.places.now t.len c.args.place c.args.record (some_within (rows t) c.args.place c.in-Some.old c.in-Some.ensures))
+    ∙ set_ascends g.R.K.Key.before g.R.Keyed.key (rows t) c.args.place c.args.record same ∙ t.ascends
 
-pub returns-in_default-against : goal.returns-in_default-against
-returns-in_default-against g c =
-    other_key g.R.K.Key.before g.R.Keyed.key c.args.self.now c.args.place c.args.record c.in-Some.old c.key.result c.key-2.result
-    c.in-Some.ensures c.key.ensures c.key-2.ensures g.met.R.K.Key.trichotomy c.against.result c.against.ensures c.in_default-against.not-Equal
+pub returns : goal.returns
+returns g c =
+    let t = c.args.self.now in
+    let within = some_within (rows t) c.args.place c.in-Some.old c.in-Some.ensures in
+    let same = same_key g.R.K.Key.before g.R.Keyed.key g.met.R.K.Key.trichotomy (rows t) c.args.place c.args.record c.in-Some.old c.key.result
+    c.in-Some.ensures c.key.ensures c.stands.result c.stands.ensures (sym c.is_ne.ensures ∙ c.if-is_ne.false) in
+    (length-set t.places.now c.args.place c.args.record, within, same, rows_set t.places.now t.len c.args.place c.args.record within)
+
+pub offset_bounds-self-place : goal.offset_bounds-self-place
+offset_bounds-self-place g c = let l = bounds-self-place g c in search rules
