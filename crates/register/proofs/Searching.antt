@@ -14,7 +14,7 @@ use Rattle.register.proofs.Sorted.{getD_in, before_once, never_itself, none_unde
 -- ## Items before a place, and from it on
 
 module _ {X : Type 0} (P : X → Type 0) where
-  all_before : (xs : List X) (i : ℕ) → i ≤ length xs → AllWithin P xs 0 i → AllByRecursion P (take i xs)
+  pub all_before : (xs : List X) (i : ℕ) → i ≤ length xs → AllWithin P xs 0 i → AllByRecursion P (take i xs)
   all_before [] zero le h = tt
   all_before [] (suc i) le h = tt
   all_before (x ∷ xs) zero le h = tt

@@ -70,3 +70,7 @@ module _ {R K : Type 0} {keyed : KeyedGhosts R K} {order : KeyGhosts K} (lt : K 
   Removing from to t u true =
       (room u ≡ room t) × (from ≤ to) × (to ≤ length (rows t)) × (rows u ≡ take from (rows t) ++ drop to (rows t))
   Removing from to t u false = (u ≡ t) × ¬ ((from ≤ to) × (to ≤ length (rows t)))
+
+-- the tables of records that are kept in order by their keys
+abbrev pub TableBy : {R K : Type 0} → (K → K → Bool) → (R → K) → Type 0
+TableBy {R} {K} lt key = Table R K record { key = key } record { before = lt }

@@ -1,6 +1,7 @@
 -- What a working-out comes to, over the tables.
-use Rattle.std.proofs.Common.{◌≡◌, ℕ, ◌<◌, ◌≤◌, List, map, length, Some, None, Ok, Err, Option, sym, refl, ap, ◌∙◌, subst, arith}
+use Rattle.std.proofs.Common.{◌≡◌, ℕ, ◌<◌, ◌≤◌, true, false, List, map, length, Some, None, Ok, Err, is_err, Option, Result, sym, refl, ap, ◌∙◌, subst, arith}
 use lib.ListN.{length-map}
+use Rattle.std.proofs.lemmas.Bool.{false≢true}
 use Rattle.definitions.specs.declared.loads.Load.{Load}
 use Rattle.definitions.specs.declared.refusals.Refusal.{Refusal}
 use Rattle.definitions.specs.declared.refusals.Refusal.TheVariants.{LoadTableShort, PortOverloaded, PortInRing, FigurePastLimit}
@@ -9,23 +10,21 @@ use Rattle.definitions.specs.Windows.{Overloaded}
 use Rattle.definitions.specs.Methods.{Lawful}
 use Rattle.definitions.specs.Network.{Records, WellFormed}
 use Rattle.definitions.specs.Figures.{Figures, FiguresOf, Settled, OverloadedAt, still, depth, loads}
-use Rattle.definitions.specs.WorkingOut.{Outcome, settles, short, overloaded, ring, past, refusal_of}
-use Rattle.register.specs.declared.tables.Table.{Table}
-use Rattle.register.specs.Tables.{rows, Ordered}
+use Rattle.definitions.specs.WorkingOut.{Outcome, settles, short, overloaded, ring, past}
+use Rattle.register.specs.Tables.{rows}
 use Rattle.theory.proofs.Members.{all_in, in_all}
 use Rattle.theory.proofs.Exist.{figures_exist}
 use Rattle.working_out.specs.declared.rows.Progress.TheVariants.{Open, Waiting, PastLimit}
 use Rattle.working_out.specs.declared.rows.PortRow.{PortRow}
 use Rattle.working_out.specs.declared.rows.LinkRow.{LinkRow}
 use Rattle.working_out.specs.declared.rows.HopRow.{HopRow}
-use Rattle.working_out.specs.Keys.{number_before, link_key}
+use Rattle.working_out.specs.Keys.{Ports, Links, Hops}
 use Rattle.working_out.specs.Rows.{bare_port, bare_hop, net}
 use Rattle.working_out.specs.Gathering.{loads_at, FirstPort, OverloadedRow}
 use Rattle.working_out.specs.Settling.{Setting, Holds, Worked, Stuck}
 use Rattle.working_out.specs.Rings.{Remarked, RingTold, LowestTold, FindsRing, unmarked}
-use Rattle.working_out.specs.Works.{Shown, Zero, Cleared, FiguresLeft, refused_by, Judged, Works}
+use Rattle.working_out.specs.Works.{Shown, Zero, Cleared, FiguresLeft, result_of, Judged, Works}
 use Rattle.working_out.proofs.RowLists.{map_in}
-use Rattle.working_out.proofs.Tabled.{ports_ordered, links_ordered}
 use Rattle.working_out.proofs.Quieted.{map_again}
 use Rattle.working_out.proofs.LoadsOf.{loads_are}
 use Rattle.working_out.proofs.Rounds.{unworked}
@@ -35,36 +34,40 @@ use Rattle.working_out.proofs.Judging.{none_waits, lowest_past, settled, shown}
 
 -- ## Rings
 
-module _ (t : Table PortRow) (hs : List HopRow) where
+module _ (t : Ports) (hs : List HopRow) where
   pub ring_none : FirstPort (λ (x : PortRow). x.progress ≡ Waiting) (rows t) None
       → (r : Records) (worth : List Load → ℕ) (ls : List LinkRow) → Setting r worth → Stuck r worth (rows t) ls hs → RingTold r None
   ring_none none r worth ls s k = none_waits r worth s (rows t) ls hs k none
 
-  pub ring_searched : (u : Table PortRow) (a : Option ℕ) → FindsRing hs t u a
+  pub ring_searched : (u : Ports) (a : Option ℕ) → FindsRing hs t u a
       → (r : Records) (worth : List Load → ℕ) (ls : List LinkRow) → Setting r worth → Stuck r worth (rows t) ls hs → RingTold r a
   ring_searched u a finds r worth ls s k =
-      finds.told (ports_ordered r s.well_formed (rows t) ls hs k.worked.held) r s.well_formed k.worked.held.ports k.worked.held.hops
+      finds.told r s.well_formed k.worked.held.ports k.worked.held.hops
 
 -- ## Judging
 
-some_none : {X Y : Type 0} (x : X) → Some x ≡ None → Y
-some_none x e = let z : ◌≡◌ {A = ℕ} 0 1 = cc in absurd (omega arith)
+err_ok : {Y : Type 0} (e : Refusal) → ◌≡◌ {A = Result (Unit {0}) Refusal} (Err e) (Ok tt) → Y
+err_ok e h = let z : ◌≡◌ {A = ℕ} 0 1 = cc in absurd (omega arith)
 
-module _ (t u : Table PortRow) (hs : List HopRow) (marks : Remarked t u)
+ok_of : (o : Result (Unit {0}) Refusal) → is_err o ≡ false → o ≡ Ok tt
+ok_of (Ok u) h = refl
+ok_of (Err e) h = absurd (false≢true (sym h))
+
+module _ (t u : Ports) (hs : List HopRow) (marks : Remarked t u)
     (r : Records) (worth : List Load → ℕ) (ls : List LinkRow) (s : Setting r worth) (k : Stuck r worth (rows t) ls hs) where
   same_but_marks : map unmarked (rows u) ≡ map unmarked (rows t)
-  same_but_marks = marks.marks_only (ports_ordered r s.well_formed (rows t) ls hs k.worked.held)
+  same_but_marks = marks.marks_only
 
   still_held : Holds r (rows u) ls hs
   still_held = record { ports = ports_of_marks (rows t) (rows u) same_but_marks ∙ k.worked.held.ports; links = k.worked.held.links; hops = k.worked.held.hops }
 
-  pub judged_ring : (p : ℕ) → RingTold r (Some p) → Judged r worth (rows u) ls hs (Some (PortInRing p))
+  pub judged_ring : (p : ℕ) → RingTold r (Some p) → Judged r worth (rows u) ls hs (Err (PortInRing p))
   judged_ring p told = record {
     outcome = ring p;
     told = refl;
     comes = λ n le. (le, s.carried, told);
     held = still_held;
-    shown = λ e. some_none (PortInRing p) e;
+    shown = λ e. err_ok (PortInRing p) e;
   }
 
   module _ (free : RingTold r None) where
@@ -74,13 +77,13 @@ module _ (t u : Table PortRow) (hs : List HopRow) (marks : Remarked t u)
     f : FiguresOf r worth F
     f = (figures_exist r s.well_formed free worth).1
 
-    pub judged_past : (p : ℕ) → FirstPort (λ (x : PortRow). x.progress ≡ PastLimit) (rows t) (Some p) → Judged r worth (rows u) ls hs (Some (FigurePastLimit p))
+    pub judged_past : (p : ℕ) → FirstPort (λ (x : PortRow). x.progress ≡ PastLimit) (rows t) (Some p) → Judged r worth (rows u) ls hs (Err (FigurePastLimit p))
     judged_past p first = record {
       outcome = past p;
       told = refl;
       comes = λ n le. (le, s.carried, free, (F, f, lowest_past r worth s (rows t) ls hs k free F f (Some p) first));
       held = still_held;
-      shown = λ e. some_none (FigurePastLimit p) e;
+      shown = λ e. err_ok (FigurePastLimit p) e;
     }
 
     module _ (none : FirstPort (λ (x : PortRow). x.progress ≡ PastLimit) (rows t) None) where
@@ -101,7 +104,7 @@ module _ (t u : Table PortRow) (hs : List HopRow) (marks : Remarked t u)
             hops = before.hops;
           }
 
-      pub judged_none : Judged r worth (rows u) ls hs None
+      pub judged_none : Judged r worth (rows u) ls hs (Ok tt)
       judged_none = record {
         outcome = settles;
         told = refl;
@@ -113,7 +116,7 @@ module _ (t u : Table PortRow) (hs : List HopRow) (marks : Remarked t u)
 -- ## The whole working-out
 
 -- the records of cleared rows are the same, and the figures zero
-module _ (t : Table PortRow) (h : Table HopRow) (u : Table PortRow) (k : Table HopRow) (c : Cleared t h u k) where
+module _ (t : Ports) (h : Hops) (u : Ports) (k : Hops) (c : Cleared t h u k) where
   pub cleared_held : (r : Records) (ls : List LinkRow) → Holds r (rows t) ls (rows h) → Holds r (rows u) ls (rows k)
   cleared_held r ls held = record {
     ports = ap (map (λ (x : PortRow). x.port)) c.ports ∙ map_again (λ (x : PortRow). x.port) (λ (x : PortRow). bare_port x.port) (rows t) (λ x. refl) ∙ held.ports;
@@ -139,21 +142,21 @@ module _ (t : Table PortRow) (h : Table HopRow) (u : Table PortRow) (k : Table H
   cleared_open x i = let (y, j, e) = bare_in x i in ap (λ (z : PortRow). z.progress) e
 
   -- over cleared rows, overload is told of the records
-  pub overload_told : (r : Records) → WellFormed r → (l : Table LinkRow) → Holds r (rows u) (rows l) (rows k) → (a : Option ℕ)
-      → (Ordered number_before link_key l → FirstPort (OverloadedRow (rows l) (rows k)) (rows u) a) → LowestTold r (OverloadedAt r) a
+  pub overload_told : (r : Records) → WellFormed r → (l : Links) → Holds r (rows u) (rows l) (rows k) → (a : Option ℕ)
+      → (FirstPort (OverloadedRow (rows l) (rows k)) (rows u) a) → LowestTold r (OverloadedAt r) a
   overload_told r wf l held a first =
-      first_lowest r (OverloadedAt r) (OverloadedRow (rows l) (rows k)) (rows u) (ports_ordered r wf (rows u) (rows l) (rows k) held) held.ports
-      (λ x i o. subst Overloaded (same x i) o) (λ x i o. subst Overloaded (sym (same x i)) o) a (first (links_ordered r wf (rows u) (rows l) (rows k) held))
+      first_lowest r (OverloadedAt r) (OverloadedRow (rows l) (rows k)) (rows u) u.ascends held.ports
+      (λ x i o. subst Overloaded (same x i) o) (λ x i o. subst Overloaded (sym (same x i)) o) a first
     where
       same : (x : PortRow) → In x (rows u) → loads_at (rows l) x.port (rows k) ≡ loads r still x.port.number
       same x i = loads_are r wf still (rows u) (rows l) (rows k) held x i
           (λ y j at. let (z, m, e) = bare_hop_in y j in (ap (λ (w : HopRow). w.earliest) e, ap (λ (w : HopRow). w.latest) e))
 
-module _ (worth : List Load → ℕ) (law : Lawful worth) (n : ℕ) (p : Table PortRow) (l : Table LinkRow) (h : Table HopRow) (wf : WellFormed (net (rows p) (rows l) (rows h))) where
+module _ (worth : List Load → ℕ) (law : Lawful worth) (n : ℕ) (p : Ports) (l : Links) (h : Hops) (wf : WellFormed (net (rows p) (rows l) (rows h))) where
   abbrev r : Records
   r = net (rows p) (rows l) (rows h)
 
-  module _ (q : Table PortRow) (k : Table HopRow) (c : Cleared p h q k) where
+  module _ (q : Ports) (k : Hops) (c : Cleared p h q k) where
     held : Holds (net (rows p) (rows l) (rows h)) (rows q) (rows l) (rows k)
     held = cleared_held p h q k c (net (rows p) (rows l) (rows h)) (rows l) record { ports = refl; links = refl; hops = refl }
 
@@ -164,15 +167,15 @@ module _ (worth : List Load → ℕ) (law : Lawful worth) (n : ℕ) (p : Table P
     works_short less = record { outcome = short; comes = omega (arith, less, hop_count); answer = refl; held = held; left = cleared_zero p h q k c }
 
     module _ (ps : List PortRow) (hs : List HopRow) (all-ports : ps ≡ rows q) (all-hops : hs ≡ rows k) (room : length (rows k) ≤ n) where
-      told : (a : Option ℕ) → (Ordered number_before link_key l → FirstPort (OverloadedRow (rows l) hs) ps a) → LowestTold r (OverloadedAt r) a
+      told : (a : Option ℕ) → (FirstPort (OverloadedRow (rows l) hs) ps a) → LowestTold r (OverloadedAt r) a
       told a first = overload_told p h q k c r wf l held a
-          (λ up. subst (λ (zs : List PortRow). FirstPort (OverloadedRow (rows l) (rows k)) zs a) all-ports (subst (λ (zs : List HopRow). FirstPort (OverloadedRow (rows l) zs) ps a) all-hops (first up)))
+          (subst (λ (zs : List PortRow). FirstPort (OverloadedRow (rows l) (rows k)) zs a) all-ports (subst (λ (zs : List HopRow). FirstPort (OverloadedRow (rows l) zs) ps a) all-hops first))
 
-      pub works_overloaded : (x : ℕ) → (Ordered number_before link_key l → FirstPort (OverloadedRow (rows l) hs) ps (Some x))
+      pub works_overloaded : (x : ℕ) → (FirstPort (OverloadedRow (rows l) hs) ps (Some x))
           → Works r worth n (rows q) (rows l) (rows k) (Err (PortOverloaded x))
       works_overloaded x first = record { outcome = overloaded x; comes = (omega (arith, room, hop_count), told (Some x) first); answer = refl; held = held; left = cleared_zero p h q k c }
 
-      module _ (first : Ordered number_before link_key l → FirstPort (OverloadedRow (rows l) hs) ps None) (u v : Table PortRow) (m : Table HopRow) (o : Option Refusal)
+      module _ (first : FirstPort (OverloadedRow (rows l) hs) ps None) (u v : Ports) (m : Hops) (o : Result (Unit {0}) Refusal)
           (stuck : (r : Records) → Setting r worth → Worked r worth (rows q) (rows l) (rows k) → Stuck r worth (rows u) (rows l) (rows m))
           (ms : List HopRow) (all : ms ≡ rows m)
           (judged : (r : Records) (worth : List Load → ℕ) (ls : List LinkRow) → Setting r worth → Stuck r worth (rows u) ls ms → Judged r worth (rows v) ls ms o) where
@@ -183,23 +186,24 @@ module _ (worth : List Load → ℕ) (law : Lawful worth) (n : ℕ) (p : Table P
             subst (λ (zs : List HopRow). Judged r worth (rows v) (rows l) zs o) all
             (judged r worth (rows l) s (subst (Stuck r worth (rows u) (rows l)) (sym all) (stuck r s start)))
 
-        pub works_refused : (e : Refusal) → o ≡ Some e → (w : Table PortRow) (j : Table HopRow) → Cleared v m w j → Works r worth n (rows w) (rows l) (rows j) (Err e)
-        works_refused e is w j again = record {
+        pub works_refused : is_err o ≡ true → (w : Ports) (j : Hops) → Cleared v m w j → Works r worth n (rows w) (rows l) (rows j) o
+        works_refused is w j again = record {
           outcome = verdict.outcome;
           comes = verdict.comes n (omega (arith, room, hop_count));
-          answer = ap refused_by (sym is ∙ verdict.told);
+          answer = verdict.told;
           held = cleared_held v m w j again r (rows l) verdict.held;
-          left = zero_left verdict.outcome (sym is ∙ verdict.told);
+          left = zero_left verdict.outcome (sym (ap is_err verdict.told) ∙ is);
         }
           where
-            zero_left : (x : Outcome) → Some e ≡ refusal_of x → FiguresLeft r worth (rows w) (rows j) x
-            zero_left settles f = some_none e f
+            zero_left : (x : Outcome) → is_err (result_of x) ≡ true → FiguresLeft r worth (rows w) (rows j) x
+            zero_left settles f = absurd (false≢true f)
             zero_left short f = cleared_zero v m w j again
             zero_left (overloaded y) f = cleared_zero v m w j again
             zero_left (ring y) f = cleared_zero v m w j again
             zero_left (past y) f = cleared_zero v m w j again
 
-        pub works_settled : o ≡ None → Works r worth n (rows v) (rows l) (rows m) (Ok tt)
+        pub works_settled : is_err o ≡ false → Works r worth n (rows v) (rows l) (rows m) o
         works_settled is =
-            let (G, done, figures) = verdict.shown is in
-            record { outcome = settles; comes = (omega (arith, room, hop_count), (G, done)); answer = refl; held = verdict.held; left = (G, done, figures) }
+            let well = ok_of o is in
+            let (G, done, figures) = verdict.shown well in
+            record { outcome = settles; comes = (omega (arith, room, hop_count), (G, done)); answer = well; held = verdict.held; left = (G, done, figures) }

@@ -1,16 +1,15 @@
 -- Changing the rows of a table, place by place, under their keys.
-use Rattle.std.proofs.Common.{◌≡◌, ℕ, zero, suc, ◌+◌, ◌<◌, ◌≤◌, Bool, true, false, List, [], ◌∷◌, ◌++◌, map, length, get_or, take, drop, set, Some, None, Ok, Err, Option, sym, refl, ap, ◌∙◌, subst, inl, inr, arith, length-set}
+use Rattle.std.proofs.Common.{◌≡◌, ℕ, zero, suc, ◌+◌, ◌<◌, ◌≤◌, Bool, true, false, List, [], ◌∷◌, ◌++◌, map, length, get_or, take, drop, set, Some, None, Ok, Err, Option, sym, refl, ap, ◌∙◌, inl, inr, arith, length-set}
 use Rattle.std.specs.List.{slice_get}
 use Rattle.std.proofs.lemmas.List.{take_all, drop_all, append-nil}
 use Rattle.std.proofs.lemmas.List.Edits.{map_over_more}
 use Rattle.std.proofs.lemmas.Option.{slice_get-get_or}
-use Rattle.register.specs.declared.tables.Table.{Table}
-use Rattle.register.specs.Tables.{rows, by_key, Ordered, Found, Kept, Replacing}
+use Rattle.register.specs.Tables.{TableBy, rows, room, by_key, Found, Replacing}
 use Rattle.std.proofs.lemmas.Bool.{and_parts}
 use Rattle.definitions.specs.Lists.{In, every, ascending}
 use Rattle.register.specs.Orders.{ExactlyOne}
-use Rattle.register.proofs.Exits.{some_within, got_none, kept_same}
-use Rattle.register.proofs.Sorted.{before_apart, getD_in}
+use Rattle.register.proofs.Exits.{some_within}
+use Rattle.register.proofs.Sorted.{before_apart, getD_in, none_under}
 use Rattle.theory.proofs.Lookups.{in_every}
 use Rattle.working_out.proofs.Under.{under_here, under_other}
 use Rattle.working_out.specs.Edits.{KeepsKey, EditsAll, EditsUnder, edited_under}
@@ -30,51 +29,40 @@ item_there [] i l e = omega (arith, l)
 item_there (x ∷ xs) i l e = none_some (slice_get (x ∷ xs) i) (get_or (x ∷ xs) i x) (sym e) (slice_get-get_or (x ∷ xs) i x l)
 
 module _ {R K : Type 0} (lt : K → K → Bool) (key : R → K) where
-  pub kept_on : (t u v : Table R) → Kept lt key t u → Kept lt key u v → Kept lt key t v
-  kept_on t u v a b = record {
-    same_room = b.same_room ∙ a.same_room;
-    fits = λ h. b.fits (a.fits h);
-    order = λ h. b.order (a.order h);
-  }
+  -- a replacement, made or not, leaves the places and the count
+  pub room_replaced : (i : ℕ) (y : R) (t u : TableBy lt key) (b : Bool) → Replacing lt key i y t u b → room u ≡ room t
+  room_replaced i y t u true h = h.0
+  room_replaced i y t u false h = ap room h.0
 
-  -- a replacement keeps the table, made or not
-  pub kept_replaced : (i : ℕ) (y : R) (t u : Table R) (b : Bool) → Replacing lt key i y t u b → Kept lt key t u
-  kept_replaced i y t u true h = h.0
-  kept_replaced i y t u false h = subst (Kept lt key t) (sym h.0) (kept_same lt key t)
+  pub length_replaced : (i : ℕ) (y : R) (t u : TableBy lt key) (b : Bool) → Replacing lt key i y t u b → length (rows u) ≡ length (rows t)
+  length_replaced i y t u true h = ap length h.3 ∙ length-set (rows t) i y
+  length_replaced i y t u false h = ap (λ (x : TableBy lt key). length (rows x)) h.0
 
   -- the rows before the place i are changed by f, the others as they were
-  abbrev pub Changed : (R → R) → Table R → ℕ → Table R → Type 0
-  Changed f t i u = Kept lt key t u × (KeepsKey key f → rows u ≡ map f (take i (rows t)) ++ drop i (rows t)) × (length (rows u) ≡ length (rows t))
+  abbrev pub Changed : (R → R) → TableBy lt key → ℕ → TableBy lt key → Type 0
+  Changed f t i u = (room u ≡ room t) × (KeepsKey key f → rows u ≡ map f (take i (rows t)) ++ drop i (rows t)) × (length (rows u) ≡ length (rows t))
 
-  pub length_replaced : (i : ℕ) (y : R) (t u : Table R) (b : Bool) → Replacing lt key i y t u b → length (rows u) ≡ length (rows t)
-  length_replaced i y t u true h = ap length h.3 ∙ length-set (rows t) i y
-  length_replaced i y t u false h = ap (λ (x : Table R). length (rows x)) h.0
-
-  pub same_key : (f : R → R) → KeepsKey key f → (u v : Table R) (i : ℕ) (x y : R) (b : Bool)
+  pub same_key : (f : R → R) → KeepsKey key f → (u v : TableBy lt key) (i : ℕ) (x y : R) (b : Bool)
       → Some x ≡ slice_get (rows u) i → y ≡ f x → Replacing lt key i y u v b → rows v ≡ set (rows u) i (f x)
   same_key f same u v i x y true is e h = h.3 ∙ ap (set (rows u) i) e
   same_key f same u v i x y false is e (left, other) =
       absurd (other (some_within (rows u) i x is) (ap key (read_at (rows u) i x y is) ∙ sym (same x) ∙ ap key (sym e)))
 
-  pub one_changed : (f : R → R) (t u v : Table R) (i : ℕ) (x y : R) (b : Bool)
+  pub one_changed : (f : R → R) (t u v : TableBy lt key) (i : ℕ) (x y : R) (b : Bool)
       → Some x ≡ slice_get (rows u) i → y ≡ f x → Changed f t i u → Replacing lt key i y u v b → Changed f t (i + 1) v
-  one_changed f t u v i x y b is e (kept, rows_are, long) h = (
-    kept_on t u v kept (kept_replaced i y u v b h),
+  one_changed f t u v i x y b is e (room, rows_are, long) h = (
+    room_replaced i y u v b h ∙ room,
     λ same. same_key f same u v i x y b is e h
         ∙ map_over_more f (rows t) (rows u) i x (omega (arith, some_within (rows u) i x is, long)) (rows_are same) (sym (read_at (rows u) i x x is)),
     length_replaced i y u v b h ∙ long,
   )
 
   -- after the last place all are changed
-  pub all_changed : (f : R → R) (t u : Table R) (i : ℕ) → length (rows t) ≤ i → Changed f t i u → EditsAll lt key f t u
-  all_changed f t u i le (kept, rows_are, long) = record {
-    kept = kept;
+  pub all_changed : (f : R → R) (t u : TableBy lt key) (i : ℕ) → length (rows t) ≤ i → Changed f t i u → EditsAll lt key f t u
+  all_changed f t u i le (room, rows_are, long) = record {
+    same_room = room;
     edited = λ same. rows_are same ∙ ap (λ xs. map f xs ++ drop i (rows t)) (take_all i (rows t) le) ∙ ap (λ xs. map f (rows t) ++ xs) (drop_all i (rows t) le) ∙ append-nil (map f (rows t));
   }
-
-  -- there is a row at every place before the last
-  pub row_there : (f : R → R) (t u : Table R) (i : ℕ) → i < length (rows t) → Changed f t i u → None ≡ slice_get (rows u) i → ⊥
-  row_there f t u i lt (kept, rows_are, long) e = item_there (rows u) i (omega (arith, lt, long)) e
 
 -- ## The row under a key
 
@@ -97,19 +85,18 @@ module _ {R K : Type 0} (lt : K → K → Bool) (key : R → K) (one : (a b : K)
       rw (under_other lt key one k f x (λ same. before_apart lt one (key x) (key (get_or xs i d)) less (same ∙ sym e)), set_under xs i d rest (omega (arith, l)) e)
 
 module _ {R K : Type 0} (lt : K → K → Bool) (key : R → K) (tri : (a b : K) → ExactlyOne (lt a b ≡ true) (a ≡ b) (lt b a ≡ true)) where
-  pub under_changed : (f : R → R) (k : K) (t u : Table R) (i : ℕ) (x y : R) (b : Bool)
-      → (Ordered lt key t → Found lt key (rows t) k (Ok i)) → Some x ≡ slice_get (rows t) i → y ≡ f x → Replacing lt key i y t u b → EditsUnder lt key k f t u
+  pub under_changed : (f : R → R) (k : K) (t u : TableBy lt key) (i : ℕ) (x y : R) (b : Bool)
+      → Found lt key (rows t) k (Ok i) → Some x ≡ slice_get (rows t) i → y ≡ f x → Replacing lt key i y t u b → EditsUnder lt key k f t u
   under_changed f k t u i x y b found is e h = record {
-    kept = kept_replaced lt key i y t u b h;
-    edited = λ up same.
+    same_room = room_replaced lt key i y t u b h;
+    edited = λ same.
         same_key lt key f same t u i x y b is e h
         ∙ ap (λ z. set (rows t) i (f z)) (sym (read_at (rows t) i x x is))
-        ∙ set_under lt key tri k f (rows t) i x up (found up).0 ((found up).1 x);
+        ∙ set_under lt key tri k f (rows t) i x t.ascends found.0 (found.1 x);
   }
 
-  pub under_none : (f : R → R) (k : K) (t : Table R) (i : ℕ)
-      → (Ordered lt key t → Found lt key (rows t) k (Err i)) → EditsUnder lt key k f t t
+  pub under_none : (f : R → R) (k : K) (t : TableBy lt key) (i : ℕ) → Found lt key (rows t) k (Err i) → EditsUnder lt key k f t t
   under_none f k t i found = record {
-    kept = kept_same lt key t;
-    edited = λ up same. others lt key tri k f (rows t) (got_none lt key tri (rows t) k i (found up));
+    same_room = refl;
+    edited = λ same. others lt key tri k f (rows t) (none_under lt tri key k (rows t) i found.1 found.2);
   }

@@ -1,8 +1,8 @@
 -- Gathering the loads of a port.
-use Rattle.std.proofs.Common.{◌≡◌, ℕ, ◌+◌, ◌<◌, ◌≤◌, true, cond, eqb, List, [], ◌∷◌, ◌++◌, map, length, get_or, take, drop, set, Some, None, filter, sym, refl, ap, ◌∙◌, inl, inr, arith}
-use Rattle.std.specs.List.{AllByRecursion}
+use Rattle.std.proofs.Common.{◌≡◌, ℕ, ◌+◌, ◌<◌, ◌≤◌, true, cond, eqb, List, [], ◌∷◌, ◌++◌, map, length, get_or, take, drop, set, Some, None, filter, sym, refl, ap, ◌∙◌, subst, inl, inr, arith}
+use Rattle.std.specs.List.{AllByRecursion, AllWithin, HoldsAt}
 use Rattle.working_out.specs.declared.rows.PortRow.{PortRow}
-use Rattle.std.proofs.lemmas.List.{length-set, take_more_set, map-append, append-nil, take_all, drop_more, take-append-drop}
+use Rattle.std.proofs.lemmas.List.{take_more_set, map-append, append-nil, take_all, drop_more, take-append-drop}
 use Rattle.std.proofs.lemmas.List.Elements.{filter_more}
 use Rattle.std.proofs.lemmas.Bool.{eq-eqb, ne_eqb}
 use Rattle.definitions.specs.declared.loads.Load.{Load}
@@ -10,6 +10,7 @@ use Rattle.definitions.specs.declared.network.Port.{Port}
 use Rattle.definitions.specs.declared.network.VirtualLink.{VirtualLink}
 use Rattle.definitions.specs.Lists.{ascending}
 use Rattle.register.specs.Tables.{by_key, Getting}
+use Rattle.register.proofs.Searching.{all_before}
 use Rattle.theory.proofs.Members.{in_map}
 use Rattle.theory.proofs.Lookups.{find_in}
 use Rattle.working_out.specs.declared.rows.LinkRow.{LinkRow}
@@ -37,45 +38,42 @@ loads_more rs p hs i d lt =
     ∙ map-append _ (filter (λ (h : HopRow). eqb h.hop.port p.number) (take i hs)) _
 
 -- what stands after the hops before the place i
-abbrev pub SoFar : List LinkRow → Port → List HopRow → List Load → ℕ → List Load → ℕ → Type 0
-SoFar rs p hs before i ls n = (length ls ≡ length before) × (n ≤ i) × (ascending (by_key number_before link_key) rs ≡ true → take n ls ≡ loads_at rs p (take i hs))
+abbrev pub SoFar : List LinkRow → Port → List HopRow → ℕ → List Load → ℕ → Type 0
+SoFar rs p hs i ls n = (n ≤ i) × (take n ls ≡ loads_at rs p (take i hs))
 
 -- a hop at the port brings one load more
-pub one_more : (rs : List LinkRow) (p : Port) (hs : List HopRow) (before : List Load) (i : ℕ) (d : HopRow) (ls : List Load) (n : ℕ) (x : Load) (l : VirtualLink)
-    → length hs ≤ length before → i < length hs → (get_or hs i d).hop.port ≡ p.number
-    → (ascending (by_key number_before link_key) rs ≡ true → l ≡ link_under rs (get_or hs i d).hop.link) → x ≡ row_load p l (get_or hs i d)
-    → SoFar rs p hs before i ls n → SoFar rs p hs before (i + 1) (set ls n x) (n + 1)
-one_more rs p hs before i d ls n x l room lt at-port is e (same, most, so_far) =
-    let fits : n < length ls = omega (arith, room, lt, same, most) in (
-      length-set ls n x ∙ same,
+pub one_more : (rs : List LinkRow) (p : Port) (hs : List HopRow) (i : ℕ) (d : HopRow) (ls : List Load) (n : ℕ) (x : Load) (l : VirtualLink)
+    → length hs ≤ length ls → i < length hs → (get_or hs i d).hop.port ≡ p.number
+    → l ≡ link_under rs (get_or hs i d).hop.link → x ≡ row_load p l (get_or hs i d)
+    → SoFar rs p hs i ls n → SoFar rs p hs (i + 1) (set ls n x) (n + 1)
+one_more rs p hs i d ls n x l room lt at-port is e (most, so_far) =
+    let fits : n < length ls = omega (arith, room, lt, most) in (
       omega (arith, most),
-      λ up. take_more_set ls n x fits
-          ∙ ap (λ zs. zs ++ (x ∷ [])) (so_far up)
-          ∙ ap (λ y. loads_at rs p (take i hs) ++ (y ∷ [])) (e ∙ ap (λ m. row_load p m (get_or hs i d)) (is up))
+      take_more_set ls n x fits
+          ∙ ap (λ zs. zs ++ (x ∷ [])) so_far
+          ∙ ap (λ y. loads_at rs p (take i hs) ++ (y ∷ [])) (e ∙ ap (λ m. row_load p m (get_or hs i d)) is)
           ∙ sym (loads_more rs p hs i d lt
           ∙ ap (λ b. loads_at rs p (take i hs) ++ map (λ (h : HopRow). row_load p (link_under rs h.hop.link) h) (cond b (get_or hs i d ∷ []) []))
           (eq-eqb (get_or hs i d).hop.port p.number at-port)),
     )
 
 -- another hop brings none
-pub none_more : (rs : List LinkRow) (p : Port) (hs : List HopRow) (before : List Load) (i : ℕ) (d : HopRow) (ls : List Load) (n : ℕ)
+pub none_more : (rs : List LinkRow) (p : Port) (hs : List HopRow) (i : ℕ) (d : HopRow) (ls : List Load) (n : ℕ)
     → i < length hs → ¬ ((get_or hs i d).hop.port ≡ p.number)
-    → SoFar rs p hs before i ls n → SoFar rs p hs before (i + 1) ls n
-none_more rs p hs before i d ls n lt elsewhere (same, most, so_far) = (
-  same,
+    → SoFar rs p hs i ls n → SoFar rs p hs (i + 1) ls n
+none_more rs p hs i d ls n lt elsewhere (most, so_far) = (
   omega (arith, most),
-  λ up. so_far up ∙ sym (loads_more rs p hs i d lt
+  so_far ∙ sym (loads_more rs p hs i d lt
       ∙ ap (λ b. loads_at rs p (take i hs) ++ map (λ (h : HopRow). row_load p (link_under rs h.hop.link) h) (cond b (get_or hs i d ∷ []) []))
       (ne_eqb (get_or hs i d).hop.port p.number elsewhere)
       ∙ append-nil _),
 )
 
-pub all_gathered : (rs : List LinkRow) (p : Port) (hs : List HopRow) (i : ℕ) (before ls : List Load) (n : ℕ) → length hs ≤ i → i ≤ length hs
-    → SoFar rs p hs before i ls n → Gathers rs hs p before ls n
-all_gathered rs p hs i before ls n le ge (same, most, so_far) = record {
+pub all_gathered : (rs : List LinkRow) (p : Port) (hs : List HopRow) (i : ℕ) (ls : List Load) (n : ℕ) → length hs ≤ i → i ≤ length hs
+    → SoFar rs p hs i ls n → Gathers rs hs p ls n
+all_gathered rs p hs i ls n le ge (most, so_far) = record {
   within = omega (arith, le, ge, most);
-  same_places = same;
-  loads = λ up. so_far up ∙ ap (loads_at rs p) (take_all i hs le);
+  loads = so_far ∙ ap (loads_at rs p) (take_all i hs le);
 }
 
 -- the first row of which P holds stands after rows of which it does not
@@ -90,3 +88,11 @@ first_here P ps i d lt none here = record {
   holds = here;
   number = refl;
 }
+
+-- as a search tells it
+pub first_found : (P : PortRow → Type 0) (ps : List PortRow) (row : PortRow)
+    → P row × (i : ℕ) × (i < length ps) × HoldsAt (λ y. y ≡ row) ps i × AllWithin (λ x. ¬ P x) ps 0 i → FirstIs P ps row.port.number
+first_found P ps row (here, i, lt, at, before) =
+    let is = at row in
+    subst (λ (z : PortRow). FirstIs P ps z.port.number) is
+    (first_here P ps i row lt (all_before (λ x. ¬ P x) ps i (omega arith) before) (subst P (sym is) here))

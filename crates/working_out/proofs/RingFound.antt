@@ -1,7 +1,7 @@
 -- RingFound: trying the ports one by one finds the lowest that feeds itself.
 --
 --   SelfFed hs x         the port of the row x feeds itself by the hops of the rows hs
---   NoneBefore hs t i u  no port before the place i of t does, and u is t but for the marks, where t is in order
+--   NoneBefore hs t i u  no port before the place i of t does, and u is t but for the marks
 use Rattle.std.proofs.Common.{◌≡◌, ℕ, ◌+◌, ◌<◌, ◌≤◌, Bool, true, false, List, map, length, get_or, take, Some, None, Decides, Option, sym, refl, ap, ◌∙◌, subst, arith}
 use Rattle.std.specs.List.{AllByRecursion, slice_get}
 use Rattle.std.proofs.ByRecursion.{All-more}
@@ -12,12 +12,11 @@ use Rattle.definitions.specs.Lists.{In}
 use Rattle.definitions.specs.Network.{Records, WellFormed, Feeds, direct, through}
 use Rattle.theory.proofs.Members.{in_map}
 use Rattle.theory.proofs.Keys.{hop_port}
-use Rattle.register.specs.declared.tables.Table.{Table}
-use Rattle.register.specs.Tables.{rows, Ordered}
+use Rattle.register.specs.Tables.{rows}
 use Rattle.register.proofs.Exits.{some_within}
 use Rattle.working_out.specs.declared.rows.PortRow.{PortRow}
 use Rattle.working_out.specs.declared.rows.HopRow.{HopRow}
-use Rattle.working_out.specs.Keys.{number_before, port_key}
+use Rattle.working_out.specs.Keys.{port_key, Ports}
 use Rattle.working_out.specs.Gathering.{FirstPort}
 use Rattle.working_out.specs.Rings.{unmarked, Remarked, FedBy, Homed, FeedsItself, FindsRing}
 use Rattle.working_out.proofs.Edited.{read_at, item_there}
@@ -29,8 +28,8 @@ use Rattle.working_out.proofs.FirstPorts.{first_lowest}
 abbrev pub SelfFed : List HopRow → PortRow → Type 0
 SelfFed hs x = FedBy hs (port_key x) (port_key x)
 
-abbrev pub NoneBefore : List HopRow → Table PortRow → ℕ → Table PortRow → Type 0
-NoneBefore hs t i u = Remarked t u × (Ordered number_before port_key t → Homed (rows t) hs → AllByRecursion (λ x. ¬ SelfFed hs x) (take i (rows t)))
+abbrev pub NoneBefore : List HopRow → Ports → ℕ → Ports → Type 0
+NoneBefore hs t i u = Remarked t u × (Homed (rows t) hs → AllByRecursion (λ x. ¬ SelfFed hs x) (take i (rows t)))
 
 -- ## Rows and records
 
@@ -47,14 +46,14 @@ homed r wf xs hs ports hops h i =
     let (x, k, f) = map_in (λ (x : PortRow). x.port) xs p (subst (In p) (sym ports) j) in
     (x, k, ap (λ (z : Port). z.number) (sym f) ∙ e)
 
-ring_told : (hs : List HopRow) (t u : Table PortRow) (a : Option ℕ) → Remarked t u
-    → (Ordered number_before port_key t → Homed (rows t) hs → FirstPort (SelfFed hs) (rows t) a) → FindsRing hs t u a
+ring_told : (hs : List HopRow) (t u : Ports) (a : Option ℕ) → Remarked t u
+    → (Homed (rows t) hs → FirstPort (SelfFed hs) (rows t) a) → FindsRing hs t u a
 ring_told hs t u a marks first = record {
   remarked = marks;
-  told = λ up r wf ports hops.
-      first_lowest r (λ n. Feeds r n n) (SelfFed hs) (rows t) up ports
+  told = λ r wf ports hops.
+      first_lowest r (λ n. Feeds r n n) (SelfFed hs) (rows t) t.ascends ports
       (λ x i f. feeds_with _ r hops f) (λ x i f. feeds_with r _ (sym hops) f)
-      a (first up (homed r wf (rows t) hs ports hops));
+      a (first (homed r wf (rows t) hs ports hops));
 }
 
 -- ## One port after another
@@ -70,40 +69,39 @@ number_at xs ys e i y d lt is =
 same_length : (xs ys : List PortRow) → map unmarked ys ≡ map unmarked xs → length ys ≡ length xs
 same_length xs ys e = sym (length-map ys unmarked) ∙ ap length e ∙ length-map xs unmarked
 
-module _ (hs : List HopRow) (t u : Table PortRow) (i : ℕ) (none : NoneBefore hs t i u) where
+module _ (hs : List HopRow) (t u : Ports) (i : ℕ) (none : NoneBefore hs t i u) where
   -- in a table in order there is a row at every place before the last
   pub no_row : i < length (rows t) → None ≡ slice_get (rows u) i → FindsRing hs t u None
   no_row lt e =
       ring_told hs t u None none.0
-      (λ up h. absurd (item_there (rows u) i (omega (arith, lt, same_length (rows t) (rows u) (none.0.marks_only up))) e))
+      (λ h. absurd (item_there (rows u) i (omega (arith, lt, same_length (rows t) (rows u) none.0.marks_only)) e))
 
-  module _ (v : Table PortRow) (row : PortRow) (is : Some row ≡ slice_get (rows u) i) where
-    module _ (up : Ordered number_before port_key t) where
-      within : i < length (rows t)
-      within = omega (arith, some_within (rows u) i row is, same_length (rows t) (rows u) (none.0.marks_only up))
+  module _ (v : Ports) (row : PortRow) (is : Some row ≡ slice_get (rows u) i) where
+    within : i < length (rows t)
+    within = omega (arith, some_within (rows u) i row is, same_length (rows t) (rows u) none.0.marks_only)
 
-      here : port_key (get_or (rows t) i row) ≡ port_key row
-      here = number_at (rows t) (rows u) (none.0.marks_only up) i row row within is
+    here : port_key (get_or (rows t) i row) ≡ port_key row
+    here = number_at (rows t) (rows u) none.0.marks_only i row row within is
 
-      told_here : (b : Bool) → FeedsItself hs (port_key row) u v b → Homed (rows t) hs → Decides b (SelfFed hs (get_or (rows t) i row))
-      told_here b tried h =
-          subst (λ n. Decides b (FedBy hs n n)) (sym here)
-          (tried.told (none.0.kept.order up) (homed_of_marks (rows t) (rows u) (none.0.marks_only up) hs h))
+    told_here : (b : Bool) → FeedsItself hs (port_key row) u v b → Homed (rows t) hs → Decides b (SelfFed hs (get_or (rows t) i row))
+    told_here b tried h =
+        subst (λ n. Decides b (FedBy hs n n)) (sym here)
+        (tried.told (homed_of_marks (rows t) (rows u) none.0.marks_only hs h))
 
     -- the port at the place does not feed itself
     pub none_here : FeedsItself hs (port_key row) u v false → NoneBefore hs t (i + 1) v
     none_here tried = (
       remarked_on t u v none.0 tried.remarked,
-      λ up h. All-more (λ x. ¬ SelfFed hs x) (rows t) i row (within up) (none.1 up h) (λ f. both_ways false refl ((told_here up false tried h).1 f)),
+      λ h. All-more (λ x. ¬ SelfFed hs x) (rows t) i row within (none.1 h) (λ f. both_ways false refl ((told_here false tried h).1 f)),
     )
 
     -- it does
     pub ring_here : FeedsItself hs (port_key row) u v true → FindsRing hs t v (Some (port_key row))
     ring_here tried =
         ring_told hs t v (Some (port_key row)) (remarked_on t u v none.0 tried.remarked)
-        (λ up h. subst (λ n. FirstPort (SelfFed hs) (rows t) (Some n)) (here up)
-        (first_here (SelfFed hs) (rows t) i row (within up) (none.1 up h) ((told_here up true tried h).0 refl)))
+        (λ h. subst (λ n. FirstPort (SelfFed hs) (rows t) (Some n)) here
+        (first_here (SelfFed hs) (rows t) i row within (none.1 h) ((told_here true tried h).0 refl)))
 
   -- after the last place
   pub no_ring : length (rows t) ≤ i → FindsRing hs t u None
-  no_ring le = ring_told hs t u None none.0 (λ up h. subst (AllByRecursion (λ x. ¬ SelfFed hs x)) (take_all i (rows t) le) (none.1 up h))
+  no_ring le = ring_told hs t u None none.0 (λ h. subst (AllByRecursion (λ x. ¬ SelfFed hs x)) (take_all i (rows t) le) (none.1 h))

@@ -1,7 +1,7 @@
 -- RingMarks: the ports that a port feeds, marked in their rows.
-use Rattle.std.proofs.Common.{◌≡◌, ℕ, ◌+◌, ◌<◌, ◌≤◌, Bool, true, false, cond, ◌||◌, List, [], ◌∷◌, ◌++◌, map, length, Some, None, Decides, sym, refl, ap, ◌∙◌, subst, inl, inr, arith}
+use Rattle.std.proofs.Common.{◌≡◌, ℕ, ◌+◌, ◌<◌, ◌≤◌, Bool, true, false, cond, ◌||◌, List, [], ◌∷◌, ◌++◌, map, length, Some, None, Decides, Option, MatchOption, IsTrue, ◌↔◌, sym, refl, ap, ◌∙◌, subst, inl, inr, arith}
 use Rattle.std.specs.List.{AllByRecursion}
-use Rattle.std.proofs.lemmas.Bool.{both_ways, false≢true}
+use Rattle.std.proofs.lemmas.Bool.{both_ways}
 use Rattle.std.proofs.ByRecursion.{All-push}
 use Rattle.std.proofs.lemmas.Bool.Decides.{nat_tests}
 use Rattle.definitions.specs.declared.network.Hop.{Hop}
@@ -9,15 +9,12 @@ use Rattle.definitions.specs.Lists.{In, ascending}
 use Rattle.definitions.specs.Network.{direct, through}
 use Rattle.theory.proofs.Members.{in_map, in_all, all_in, total_map, total_less}
 use Rattle.theory.proofs.Keys.{map_same}
-use Rattle.register.specs.declared.tables.Table.{Table}
-use Rattle.register.specs.Tables.{rows, by_key, Ordered, Getting}
-use Rattle.register.proofs.Exits.{kept_same}
+use Rattle.register.specs.Tables.{rows, by_key, Getting}
 use Rattle.working_out.specs.declared.rows.PortRow.{PortRow}
 use Rattle.working_out.specs.declared.rows.HopRow.{HopRow}
-use Rattle.working_out.specs.Keys.{number_before, port_key}
+use Rattle.working_out.specs.Keys.{number_before, port_key, Ports}
 use Rattle.working_out.specs.Edits.{EditsAll, edited_under}
 use Rattle.working_out.specs.Rings.{marked, unmarked, Remarked, Marked, unmarked_count, Marks, FedBy, Reached, Sound, Passed, Comes, Spreads, SpreadsAll, Homed, FeedsItself}
-use Rattle.working_out.proofs.Edited.{kept_on}
 use Rattle.working_out.proofs.RowLists.{map_in, map_twice, in_left, in_right}
 use Rattle.working_out.proofs.Tabled.{one_row}
 use Rattle.working_out.proofs.Under.{numbers_one, under_here, under_cases}
@@ -41,13 +38,13 @@ pub row_of_marks : (xs ys : List PortRow) → map unmarked ys ≡ map unmarked x
     → (y : PortRow) × In y ys × (unmarked x ≡ unmarked y)
 row_of_marks xs ys e x i = map_in unmarked ys (unmarked x) (subst (In (unmarked x)) (sym e) (in_map unmarked xs x i))
 
-pub remarked_same : (t : Table PortRow) → Remarked t t
-remarked_same t = record { kept = kept_same number_before port_key t; marks_only = λ up. refl }
+pub remarked_same : (t : Ports) → Remarked t t
+remarked_same t = record { same_room = refl; marks_only = refl }
 
-pub remarked_on : (t u v : Table PortRow) → Remarked t u → Remarked u v → Remarked t v
+pub remarked_on : (t u v : Ports) → Remarked t u → Remarked u v → Remarked t v
 remarked_on t u v a b = record {
-  kept = kept_on number_before port_key t u v a.kept b.kept;
-  marks_only = λ up. b.marks_only (a.kept.order up) ∙ a.marks_only up;
+  same_room = b.same_room ∙ a.same_room;
+  marks_only = b.marks_only ∙ a.marks_only;
 }
 
 -- each hop still stands at the port of a row
@@ -59,23 +56,23 @@ homed_of_marks xs ys e hs homed h i =
 
 -- ## Marks of one port
 
-pub marked_some : (p : ℕ) (xs : List PortRow) (row : PortRow) → ascending (by_key number_before port_key) xs ≡ true → Getting port_key xs p (Some row) → Decides row.fed (Marked xs p)
-marked_some p xs row up (i, e) = (
-  λ t. (row, i, e, t),
-  λ m. ap (λ (x : PortRow). x.fed) (one_row xs up row m.0 i m.1 (e ∙ sym m.2)) ∙ m.3,
+-- what the row under the port's number says
+pub marked_by : (p : ℕ) (xs : List PortRow) → ascending (by_key number_before port_key) xs ≡ true → (o : Option PortRow) → Getting port_key xs p o
+    → (b : Bool) → MatchOption o (b ≡ false) (λ row. b ≡ row.fed) → IsTrue b ↔ Marked xs p
+marked_by p xs up (Some row) (i, e) b is = (
+  λ t. (row, i, e, sym is ∙ t),
+  λ m. is ∙ ap (λ (x : PortRow). x.fed) (one_row xs up row m.0 i m.1 (e ∙ sym m.2)) ∙ m.3,
 )
-
-pub marked_none : (p : ℕ) (xs : List PortRow) → Getting port_key xs p None → Decides false (Marked xs p)
-marked_none p xs none = (λ e. absurd (false≢true e), λ m. absurd (none m.0 m.1 m.2))
+marked_by p xs up None none b is = (λ t. absurd (both_ways b is t), λ m. absurd (none m.0 m.1 m.2))
 
 -- a port that is not there, or marked already, is left
-pub left_none : (p : ℕ) (t : Table PortRow) → (Ordered number_before port_key t → Getting port_key (rows t) p None) → Marks p t t false
-left_none p t none = (refl, λ up x i e. absurd (none up x i e))
+pub left_none : (p : ℕ) (t : Ports) → (Getting port_key (rows t) p None) → Marks p t t false
+left_none p t none = (refl, λ x i e. absurd (none x i e))
 
-pub left_marked : (p : ℕ) (t : Table PortRow) (row : PortRow) → (Ordered number_before port_key t → Getting port_key (rows t) p (Some row)) → row.fed ≡ true → Marks p t t false
+pub left_marked : (p : ℕ) (t : Ports) (row : PortRow) → (Getting port_key (rows t) p (Some row)) → row.fed ≡ true → Marks p t t false
 left_marked p t row got m = (
   refl,
-  λ up x j f. ap (λ (y : PortRow). y.fed) (one_row (rows t) up x row j (got up).0 (f ∙ sym (got up).1)) ∙ m,
+  λ x j f. ap (λ (y : PortRow). y.fed) (one_row (rows t) t.ascends x row j got.0 (f ∙ sym got.1)) ∙ m,
 )
 
 -- ## Spreading
@@ -129,53 +126,51 @@ sound_mark hs p n xs sound fed y i m =
     ]
 
 -- a hop that marks nothing
-spreads_none : (h : HopRow) (p : ℕ) (t : Table PortRow) → (Ordered number_before port_key t → Passed p (rows t) h) → Spreads (h ∷ []) p t t false
+spreads_none : (h : HopRow) (p : ℕ) (t : Ports) → (Passed p (rows t) h) → Spreads (h ∷ []) p t t false
 spreads_none h p t passed = record {
   remarked = remarked_same t;
-  sound = λ up ks within old. old;
-  comes = λ up. (refl, (passed up, tt));
+  sound = λ ks within old. old;
+  comes = (refl, (passed, tt));
 }
 
 -- a hop after a port that is reached
-pub spreads_next : (h : HopRow) (p q : ℕ) (t u : Table PortRow) (b : Bool) → h.hop.after ≡ Some q → (Ordered number_before port_key t → Reached p (rows t) q)
+pub spreads_next : (h : HopRow) (p q : ℕ) (t u : Ports) (b : Bool) → h.hop.after ≡ Some q → (Reached p (rows t) q)
     → Marks h.hop.port t u b → Spreads (h ∷ []) p t u b
-spreads_next h p q t u true a reached (kept, there, is) = record {
-  remarked = record { kept = kept; marks_only = λ up. ap (map unmarked) (is up) ∙ marks_only_after h.hop.port (rows t) };
-  sound = λ up ks within old.
-      subst (Sound ks p) (sym (is up)) (sound_mark ks p h.hop.port (rows t) old (fed_on ks p (rows t) h q old (within h (inl refl)) a (reached up)));
-  comes = λ up.
-      let (x, i, e, f) = there up in
-      omega (arith, ap unmarked_count (is up), one_less h.hop.port (rows t) x i e f);
+spreads_next h p q t u true a reached (room, (x, i, e, f), is) = record {
+  remarked = record { same_room = room; marks_only = ap (map unmarked) is ∙ marks_only_after h.hop.port (rows t) };
+  sound = λ ks within old.
+      subst (Sound ks p) (sym is) (sound_mark ks p h.hop.port (rows t) old (fed_on ks p (rows t) h q old (within h (inl refl)) a reached));
+  comes = omega (arith, ap unmarked_count is, one_less h.hop.port (rows t) x i e f);
 }
 spreads_next h p q t u false a reached (same, all) =
-    subst (λ v. Spreads (h ∷ []) p t v false) (sym same) (spreads_none h p t (λ up m b c x i e. all up x i e))
+    subst (λ v. Spreads (h ∷ []) p t v false) (sym same) (spreads_none h p t (λ m b c x i e. all x i e))
 
-comes_on : (hs : List HopRow) (h : HopRow) (p : ℕ) (t u v : Table PortRow) (a b : Bool)
+comes_on : (hs : List HopRow) (h : HopRow) (p : ℕ) (t u v : Ports) (a b : Bool)
     → Comes hs p t u a → Comes (h ∷ []) p u v b → Comes (hs ++ (h ∷ [])) p t v (a || b)
 comes_on hs h p t u v true true less also = omega (arith, less, also)
-comes_on hs h p t u v true false less (same, passed) = omega (arith, less, ap (λ (x : Table PortRow). unmarked_count (rows x)) same)
-comes_on hs h p t u v false true (same, passed) less = omega (arith, less, ap (λ (x : Table PortRow). unmarked_count (rows x)) same)
+comes_on hs h p t u v true false less (same, passed) = omega (arith, less, ap (λ (x : Ports). unmarked_count (rows x)) same)
+comes_on hs h p t u v false true (same, passed) less = omega (arith, less, ap (λ (x : Ports). unmarked_count (rows x)) same)
 comes_on hs h p t u v false false (same, passed) (also, here) =
-    (also ∙ same, All-push (Passed p (rows t)) hs h passed (subst (λ (x : Table PortRow). Passed p (rows x) h) same here.0))
+    (also ∙ same, All-push (Passed p (rows t)) hs h passed (subst (λ (x : Ports). Passed p (rows x) h) same here.0))
 
 -- one hop more
-pub spreads_on : (hs : List HopRow) (h : HopRow) (p : ℕ) (t u v : Table PortRow) (a b : Bool)
+pub spreads_on : (hs : List HopRow) (h : HopRow) (p : ℕ) (t u v : Ports) (a b : Bool)
     → Spreads hs p t u a → Spreads (h ∷ []) p u v b → Spreads (hs ++ (h ∷ [])) p t v (a || b)
 spreads_on hs h p t u v a b x y = record {
   remarked = remarked_on t u v x.remarked y.remarked;
-  sound = λ up ks within old.
-      y.sound (x.remarked.kept.order up) ks (λ k i. within k (in_right hs (h ∷ []) k i)) (x.sound up ks (λ k i. within k (in_left hs (h ∷ []) k i)) old);
-  comes = λ up. comes_on hs h p t u v a b (x.comes up) (y.comes (x.remarked.kept.order up));
+  sound = λ ks within old.
+      y.sound ks (λ k i. within k (in_right hs (h ∷ []) k i)) (x.sound ks (λ k i. within k (in_left hs (h ∷ []) k i)) old);
+  comes = comes_on hs h p t u v a b x.comes y.comes;
 }
 
 -- ## Spreading until nothing is added
 
 -- each of i passes marked a row
-abbrev pub Spreading : List HopRow → ℕ → Table PortRow → ℕ → Table PortRow → Type 0
+abbrev pub Spreading : List HopRow → ℕ → Ports → ℕ → Ports → Type 0
 Spreading hs p t i u =
     Remarked t u
-    × (Ordered number_before port_key t → Sound hs p (rows t) → Sound hs p (rows u))
-    × (Ordered number_before port_key t → unmarked_count (rows u) + i ≤ length (rows t))
+    × (Sound hs p (rows t) → Sound hs p (rows u))
+    × (unmarked_count (rows u) + i ≤ length (rows t))
 
 -- no more rows are without a mark than there are
 few_unmarked : (xs : List PortRow) → unmarked_count xs ≤ length xs
@@ -192,26 +187,26 @@ all_marked (y ∷ xs) e x (inl f) = ap (λ (z : PortRow). z.fed) f ∙ marked_fi
     marked_first false h = absurd (omega (arith, h))
 all_marked (y ∷ xs) e x (inr i) = all_marked xs (omega (arith, e)) x i
 
-pub spreading_none : (hs : List HopRow) (p : ℕ) (t : Table PortRow) → Spreading hs p t 0 t
-spreading_none hs p t = (remarked_same t, λ up old. old, λ up. omega (arith, few_unmarked (rows t)))
+pub spreading_none : (hs : List HopRow) (p : ℕ) (t : Ports) → Spreading hs p t 0 t
+spreading_none hs p t = (remarked_same t, λ old. old, omega (arith, few_unmarked (rows t)))
 
-module _ (hs : List HopRow) (p : ℕ) (t u : Table PortRow) (i : ℕ) (so_far : Spreading hs p t i u) where
+module _ (hs : List HopRow) (p : ℕ) (t u : Ports) (i : ℕ) (so_far : Spreading hs p t i u) where
   -- one pass more
-  pub spreading_on : (v : Table PortRow) → Spreads hs p u v true → Spreading hs p t (i + 1) v
+  pub spreading_on : (v : Ports) → Spreads hs p u v true → Spreading hs p t (i + 1) v
   spreading_on v pass = (
     remarked_on t u v so_far.0 pass.remarked,
-    λ up old. pass.sound (so_far.0.kept.order up) hs (λ h j. j) (so_far.1 up old),
-    λ up. omega (arith, so_far.2 up, pass.comes (so_far.0.kept.order up)),
+    λ old. pass.sound hs (λ h j. j) (so_far.1 old),
+    omega (arith, so_far.2, pass.comes),
   )
 
   -- a pass that adds nothing is the last
-  pub spread_last : (v : Table PortRow) → Spreads hs p u v false → SpreadsAll hs p t v
+  pub spread_last : (v : Ports) → Spreads hs p u v false → SpreadsAll hs p t v
   spread_last v pass = record {
     remarked = remarked_on t u v so_far.0 pass.remarked;
-    sound = λ up old. pass.sound (so_far.0.kept.order up) hs (λ h j. j) (so_far.1 up old);
-    passed = λ up.
-        let (same, all) = pass.comes (so_far.0.kept.order up) in
-        subst (λ (w : Table PortRow). AllByRecursion (Passed p (rows w)) hs) (sym same) all;
+    sound = λ old. pass.sound hs (λ h j. j) (so_far.1 old);
+    passed =
+        let (same, all) = pass.comes in
+        subst (λ (w : Ports). AllByRecursion (Passed p (rows w)) hs) (sym same) all;
   }
 
   -- after as many passes as there are rows all are marked
@@ -219,16 +214,16 @@ module _ (hs : List HopRow) (p : ℕ) (t u : Table PortRow) (i : ℕ) (so_far : 
   spread_out le = record {
     remarked = so_far.0;
     sound = so_far.1;
-    passed = λ up. all_in (Passed p (rows u)) hs (λ h j q a reached x k e. all_marked (rows u) (omega (arith, le, so_far.2 up)) x k);
+    passed = all_in (Passed p (rows u)) hs (λ h j q a reached x k e. all_marked (rows u) (omega (arith, le, so_far.2)) x k);
   }
 
 -- ## Trying one port
 
 -- without a mark all marks are sound
-pub cleared : (hs : List HopRow) (p : ℕ) (t u : Table PortRow) → EditsAll number_before port_key (marked false) t u → Remarked t u × Sound hs p (rows u)
+pub cleared : (hs : List HopRow) (p : ℕ) (t u : Ports) → EditsAll number_before port_key (marked false) t u → Remarked t u × Sound hs p (rows u)
 cleared hs p t u h =
     let is : rows u ≡ map unmarked (rows t) = h.edited (λ r. refl) in (
-      record { kept = h.kept; marks_only = λ up. ap (map unmarked) is ∙ map_twice unmarked unmarked (rows t) },
+      record { same_room = h.same_room; marks_only = ap (map unmarked) is ∙ map_twice unmarked unmarked (rows t) },
       λ x i m.
           let (y, j, e) = map_in unmarked (rows t) x (subst (In x) is i) in
           absurd (both_ways x.fed (ap (λ (z : PortRow). z.fed) e) m),
@@ -244,20 +239,18 @@ fed_marked hs p xs homed passed (through a b) reached =
     fed_marked hs p xs homed passed b (inr (fed_marked hs p xs homed passed a reached))
 
 -- the marks after the last pass
-pub tried : (hs : List HopRow) (p : ℕ) (t u v : Table PortRow) (found : Bool) → Remarked t u → Sound hs p (rows u)
-    → SpreadsAll hs p u v → (Ordered number_before port_key v → Decides found (Marked (rows v) p)) → FeedsItself hs p t v found
+pub tried : (hs : List HopRow) (p : ℕ) (t u v : Ports) (found : Bool) → Remarked t u → Sound hs p (rows u)
+    → SpreadsAll hs p u v → (Decides found (Marked (rows v) p)) → FeedsItself hs p t v found
 tried hs p t u v found marks sound all is =
     let marks-all = remarked_on t u v marks all.remarked in
     record {
       remarked = marks-all;
-      told = λ up homed.
-          let there = marks.kept.order up in
-          let here = is (marks-all.kept.order up) in (
-            λ e.
-                let (x, i, k, m) = here.0 e in
-                subst (FedBy hs p) k (all.sound there sound x i m),
-            λ ring.
-                let still = homed_of_marks (rows t) (rows v) (marks-all.marks_only up) hs homed in
-                here.1 (fed_marked hs p (rows v) still (all.passed there) ring (inl refl)),
-          );
+      told = λ homed. (
+        λ e.
+            let (x, i, k, m) = is.0 e in
+            subst (FedBy hs p) k (all.sound sound x i m),
+        λ ring.
+            let still = homed_of_marks (rows t) (rows v) marks-all.marks_only hs homed in
+            is.1 (fed_marked hs p (rows v) still all.passed ring (inl refl)),
+      );
     }

@@ -3,13 +3,12 @@ use Rattle.std.proofs.Common.{◌≡◌, ℕ, ◌≤◌, Bool, true, false, List
 use Rattle.definitions.specs.declared.loads.Load.{Load}
 use Rattle.definitions.specs.Lists.{In}
 use Rattle.definitions.specs.Network.{Records}
-use Rattle.register.specs.declared.tables.Table.{Table}
 use Rattle.register.specs.Tables.{rows}
 use Rattle.working_out.specs.declared.rows.Progress.TheVariants.{Open, Waiting, WorkedOut, PastLimit}
 use Rattle.working_out.specs.declared.rows.PortRow.{PortRow}
 use Rattle.working_out.specs.declared.rows.LinkRow.{LinkRow}
 use Rattle.working_out.specs.declared.rows.HopRow.{HopRow}
-use Rattle.working_out.specs.Keys.{number_before, port_key}
+use Rattle.working_out.specs.Keys.{number_before, port_key, Ports, Links, Hops}
 use Rattle.working_out.specs.Edits.{EditsAll}
 use Rattle.working_out.specs.Marks.{opened}
 use Rattle.working_out.specs.Settling.{Setting, Holds, Tried, Worked, Known, Waits, Stuck, Advancing, Advance, SettlesFirst, RoundMakes, left_to_try, untried}
@@ -82,7 +81,7 @@ unworked r worth ps ls hs held all = record {
     untried_yet x j (inr e) = apart Open PastLimit (sym (all x j) ∙ e) (λ n. omega arith)
 
 -- one round, over the tables
-pub round_makes : (worth : List Load → ℕ) (t u v w : Table PortRow) (l : Table LinkRow) (h k : Table HopRow) (hs : List HopRow) (any : Bool)
+pub round_makes : (worth : List Load → ℕ) (t u v w : Ports) (l : Links) (h k : Hops) (hs : List HopRow) (any : Bool)
     → EditsAll number_before port_key opened t u → Advance u l h v k 0 (length (rows h)) → length (rows k) ≡ length (rows h) → hs ≡ rows k
     → ((r : Records) → Setting r worth → Known r worth (rows v) (rows l) hs (length hs) → SettlesFirst r worth (rows l) hs (length (rows v)) (rows v) (rows w) any)
     → (r : Records) → Setting r worth → Worked r worth (rows t) (rows l) (rows h) → RoundMakes r worth (rows l) (rows t) (rows h) (rows w) (rows k) any

@@ -7,17 +7,15 @@ use Rattle.std.proofs.lemmas.Option.{slice_get-get_or}
 use Rattle.definitions.specs.declared.loads.Load.{Load}
 use Rattle.definitions.specs.Lists.{In}
 use Rattle.definitions.specs.Network.{Records}
-use Rattle.register.specs.declared.tables.Table.{Table}
-use Rattle.register.specs.Tables.{rows, Ordered, Replacing}
+use Rattle.register.specs.Tables.{rows, Replacing}
 use Rattle.register.proofs.Exits.{some_within}
 use Rattle.working_out.specs.declared.rows.Progress.TheVariants.{Open}
 use Rattle.working_out.specs.declared.rows.PortRow.{PortRow}
 use Rattle.working_out.specs.declared.rows.LinkRow.{LinkRow}
 use Rattle.working_out.specs.declared.rows.HopRow.{HopRow}
-use Rattle.working_out.specs.Keys.{number_before, port_key, link_key}
+use Rattle.working_out.specs.Keys.{number_before, port_key, Ports, Links}
 use Rattle.working_out.specs.Gathering.{loads_at}
 use Rattle.working_out.specs.Settling.{Setting, Known, Figured, settled_row, untried, Settles, SettlesFirst}
-use Rattle.working_out.proofs.Tabled.{links_ordered}
 use Rattle.working_out.proofs.Edited.{same_key}
 use Rattle.working_out.proofs.RowLists.{take_set_in, take_more_in}
 use Rattle.working_out.proofs.SettledRow.{known_on, one_less, not_open}
@@ -39,19 +37,18 @@ keeps_number (Some f) x = refl
 keeps_number None x = refl
 
 -- an open port was tried
-pub tried_table : (worth : List Load → ℕ) (p q : Table PortRow) (l : Table LinkRow) (hs : List HopRow) (i : ℕ) (x : PortRow) → Some x ≡ slice_get (rows p) i → x.progress ≡ Open
-    → (gs : List Load) → (Ordered number_before link_key l → gs ≡ loads_at (rows l) x.port hs) → (o : Option (ℕ × ℕ)) → Figured worth hs x.port.number gs o
+pub tried_table : (worth : List Load → ℕ) (p q : Ports) (l : Links) (hs : List HopRow) (i : ℕ) (x : PortRow) → Some x ≡ slice_get (rows p) i → x.progress ≡ Open
+    → (gs : List Load) → (gs ≡ loads_at (rows l) x.port hs) → (o : Option (ℕ × ℕ)) → Figured worth hs x.port.number gs o
     → (new : PortRow) → new ≡ settled_row x o → (b : Bool) → Replacing number_before port_key i new p q b
     → (r : Records) → Setting r worth → Known r worth (rows p) (rows l) hs (length hs) → Settles r worth (rows l) hs i (rows p) (rows q) true
 tried_table worth p q l hs i x at is_open gs gathered o told new e b replaced r s a =
-    let now-is : rows q ≡ set (rows p) i (settled_row x o) = same_key number_before port_key (λ (z : PortRow). settled_row z o) (keeps_number o) p q i x new b at e replaced in
-    let are = gathered (links_ordered r s.well_formed (rows p) (rows l) hs a.worked.held) in (
+    let now-is : rows q ≡ set (rows p) i (settled_row x o) = same_key number_before port_key (λ (z : PortRow). settled_row z o) (keeps_number o) p q i x new b at e replaced in (
       settled_row x o,
       some_within (rows p) i x at,
       now-is,
-      not_open r worth s (rows p) (rows l) hs a i x at is_open gs are o told o,
-      subst (λ (ps : List PortRow). Known r worth ps (rows l) hs (length hs)) (sym now-is) (known_on r worth s (rows p) (rows l) hs a i x at is_open gs are o told),
-      ap (λ (ps : List PortRow). untried ps + 1) now-is ∙ one_less r worth s (rows p) (rows l) hs a i x at is_open gs are o told,
+      not_open r worth s (rows p) (rows l) hs a i x at is_open gs gathered o told o,
+      subst (λ (ps : List PortRow). Known r worth ps (rows l) hs (length hs)) (sym now-is) (known_on r worth s (rows p) (rows l) hs a i x at is_open gs gathered o told),
+      ap (λ (ps : List PortRow). untried ps + 1) now-is ∙ one_less r worth s (rows p) (rows l) hs a i x at is_open gs gathered o told,
     )
 
 -- one place more was passed

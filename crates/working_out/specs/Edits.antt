@@ -3,22 +3,22 @@
 --   KeepsKey key f           f leaves the key of every row as it is
 --   EditsAll                 every row of the table is changed, and nothing else
 --   edited_under             the row under the key is changed, the others are as they were
+--   EditsUnder               the row of the table under the key is changed, if there is one, and nothing else
 
 use Rattle.std.specs.Prelude.{◌≡◌, Bool, cond, not, ◌&&◌, map}
-use Rattle.register.specs.declared.tables.Table.{Table}
-use Rattle.register.specs.Tables.{rows, Kept, Ordered}
+use Rattle.register.specs.Tables.{TableBy, rows, room}
 
 abbrev pub KeepsKey : {R K : Type 0} → (R → K) → (R → R) → Type 0
 KeepsKey {R} key f = (r : R) → key (f r) ≡ key r
 
-pub record EditsAll {R K : Type 0} (lt : K → K → Bool) (key : R → K) (f : R → R) (t u : Table R) : Type 0 where
-  pub kept : Kept lt key t u
+pub record EditsAll {R K : Type 0} (lt : K → K → Bool) (key : R → K) (f : R → R) (t u : TableBy lt key) : Type 0 where
+  pub same_room : room u ≡ room t
   pub edited : KeepsKey key f → rows u ≡ map f (rows t)
 
 -- a key that is neither before nor after another is the same
 abbrev pub edited_under : {R K : Type 0} → (K → K → Bool) → (R → K) → K → (R → R) → R → R
 edited_under lt key k f r = cond (not (lt (key r) k) && not (lt k (key r))) (f r) r
 
-pub record EditsUnder {R K : Type 0} (lt : K → K → Bool) (key : R → K) (k : K) (f : R → R) (t u : Table R) : Type 0 where
-  pub kept : Kept lt key t u
-  pub edited : Ordered lt key t → KeepsKey key f → rows u ≡ map (edited_under lt key k f) (rows t)
+pub record EditsUnder {R K : Type 0} (lt : K → K → Bool) (key : R → K) (k : K) (f : R → R) (t u : TableBy lt key) : Type 0 where
+  pub same_room : room u ≡ room t
+  pub edited : KeepsKey key f → rows u ≡ map (edited_under lt key k f) (rows t)

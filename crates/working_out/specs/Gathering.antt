@@ -3,15 +3,12 @@
 --   link_under rs n       the link of that number
 --   row_load p l row      the load that the row's hop, of the link l, brings to the port p
 --   loads_at rs p hs      the loads of the port p, by ascending link
---   Gathers               n loads are written from the first place on: those of the port, where the links are in order
+--   Gathers               n loads are written from the first place on: those of the port
 --   OverloadedRow         the loads of the row's port overload it
 --   FirstPort P ps r      r is the number of the first row of which P holds, if there is one
 
-use Rattle.std.specs.Prelude.{◌≡◌, ℕ, ◌-◌, ◌≤◌, true, List, ◌∷◌, ◌++◌, map, length, take, Some, None, filter, Option, nat_eq}
+use Rattle.std.specs.Prelude.{◌≡◌, ℕ, ◌-◌, ◌≤◌, List, ◌∷◌, ◌++◌, map, length, take, Some, None, filter, Option, nat_eq}
 use Rattle.std.specs.List.{AllByRecursion}
-use Rattle.definitions.specs.Lists.{ascending}
-use Rattle.register.specs.Tables.{by_key}
-use Rattle.working_out.specs.Keys.{number_before, link_key}
 use Rattle.definitions.specs.Windows.{Overloaded}
 use Rattle.working_out.specs.declared.rows.PortRow.{PortRow}
 use Rattle.definitions.specs.declared.loads.Load.{Load}
@@ -34,10 +31,9 @@ row_load p l row = record {
 abbrev pub loads_at : List LinkRow → Port → List HopRow → List Load
 loads_at rs p hs = map (λ (h : HopRow). row_load p (link_under rs h.hop.link) h) (filter (λ (h : HopRow). nat_eq h.hop.port p.number) hs)
 
-pub record Gathers (rs : List LinkRow) (hs : List HopRow) (p : Port) (before after : List Load) (n : ℕ) : Type 0 where
+pub record Gathers (rs : List LinkRow) (hs : List HopRow) (p : Port) (after : List Load) (n : ℕ) : Type 0 where
   pub within : n ≤ length hs
-  pub same_places : length after ≡ length before
-  pub loads : ascending (by_key number_before link_key) rs ≡ true → take n after ≡ loads_at rs p hs
+  pub loads : take n after ≡ loads_at rs p hs
 
 abbrev pub OverloadedRow : List LinkRow → List HopRow → PortRow → Type 0
 OverloadedRow rs hs row = Overloaded (loads_at rs row.port hs)

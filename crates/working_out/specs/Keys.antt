@@ -3,9 +3,11 @@
 --   number_before        the order of numbers
 --   place_before         the order of hops' keys: by link and then port
 --   port_key, link_key, hop_key   the key of a row
+--   Ports, Links, Hops   the tables of rows, in order by their keys
 
 use Rattle.std.specs.Prelude.{ℕ, Bool, nat_lt}
 use Rattle.register.specs.Orders.{pair_before}
+use Rattle.register.specs.Tables.{TableBy}
 use Rattle.working_out.specs.declared.rows.PortRow.{PortRow}
 use Rattle.working_out.specs.declared.rows.LinkRow.{LinkRow}
 use Rattle.working_out.specs.declared.rows.HopRow.{HopRow}
@@ -24,3 +26,12 @@ link_key r = r.link.number
 
 abbrev pub hop_key : HopRow → ℕ × ℕ
 hop_key r = (r.hop.link, r.hop.port)
+
+abbrev pub Ports : Type 0
+Ports = TableBy number_before port_key
+
+abbrev pub Links : Type 0
+Links = TableBy number_before link_key
+
+abbrev pub Hops : Type 0
+Hops = TableBy place_before hop_key

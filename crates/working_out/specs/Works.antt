@@ -18,10 +18,9 @@ use Rattle.definitions.specs.WorkingOut.{Outcome, settles, short, overloaded, ri
 use Rattle.working_out.specs.declared.rows.PortRow.{PortRow}
 use Rattle.working_out.specs.declared.rows.LinkRow.{LinkRow}
 use Rattle.working_out.specs.declared.rows.HopRow.{HopRow}
-use Rattle.register.specs.declared.tables.Table.{Table}
-use Rattle.register.specs.Tables.{rows, Kept}
+use Rattle.register.specs.Tables.{rows, room}
 use Rattle.working_out.specs.Rows.{bare_port, bare_hop}
-use Rattle.working_out.specs.Keys.{number_before, place_before, port_key, hop_key}
+use Rattle.working_out.specs.Keys.{Ports, Hops}
 use Rattle.working_out.specs.Settling.{Holds}
 
 pub record Shown (r : Records) (F : Figures) (ps : List PortRow) (hs : List HopRow) : Type 0 where
@@ -33,9 +32,9 @@ pub record Zero (ps : List PortRow) (hs : List HopRow) : Type 0 where
   pub hops : AllByRecursion (λ (y : HopRow). (y.earliest ≡ 0) × (y.latest ≡ 0)) hs
 
 -- every figure is zero, and nothing else changed
-pub record Cleared (t : Table PortRow) (h : Table HopRow) (u : Table PortRow) (k : Table HopRow) : Type 0 where
-  pub ports_kept : Kept number_before port_key t u
-  pub hops_kept : Kept place_before hop_key h k
+pub record Cleared (t : Ports) (h : Hops) (u : Ports) (k : Hops) : Type 0 where
+  pub ports_room : room u ≡ room t
+  pub hops_room : room k ≡ room h
   pub ports : rows u ≡ map (λ (x : PortRow). bare_port x.port) (rows t)
   pub hops : rows k ≡ map (λ (y : HopRow). bare_hop y.hop) (rows h)
 
@@ -55,12 +54,12 @@ abbrev pub result_of : Outcome → Result (Unit {0}) Refusal
 result_of o = refused_by (refusal_of o)
 
 -- what the ports that were not worked out say, where the load table suffices and no port is overloaded
-pub record Judged (r : Records) (worth : List Load → ℕ) (ps : List PortRow) (ls : List LinkRow) (hs : List HopRow) (o : Option Refusal) : Type 0 where
+pub record Judged (r : Records) (worth : List Load → ℕ) (ps : List PortRow) (ls : List LinkRow) (hs : List HopRow) (a : Result (Unit {0}) Refusal) : Type 0 where
   pub outcome : Outcome
-  pub told : o ≡ refusal_of outcome
+  pub told : a ≡ result_of outcome
   pub comes : (n : ℕ) → length r.hops ≤ n → WorksOut r worth n outcome
   pub held : Holds r ps ls hs
-  pub shown : o ≡ None → FiguresLeft r worth ps hs settles
+  pub shown : a ≡ Ok tt → FiguresLeft r worth ps hs settles
 
 pub record Works (r : Records) (worth : List Load → ℕ) (n : ℕ) (ps : List PortRow) (ls : List LinkRow) (hs : List HopRow) (a : Result (Unit {0}) Refusal) : Type 0 where
   pub outcome : Outcome

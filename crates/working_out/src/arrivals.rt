@@ -1,12 +1,10 @@
 // Arrivals at hops, from the rows of the ports and hops before them.
 ghost use Rattle.std.specs.Prelude.{◌≡◌, ◌+◌, ◌<◌, length};
-ghost use Rattle.register.specs.Tables.{rows, Ordered, Kept};
-ghost use Rattle.working_out.specs.Keys.{number_before, place_before, port_key, link_key, hop_key};
+ghost use Rattle.register.specs.Tables.{rows, room};
 ghost use Rattle.working_out.specs.Settling.{Arrives, Advance};
 
 use crate::edits::edit_under;
 use crate::gathering::{byte_time, link_under};
-use crate::marks::HoldUp;
 use crate::rows::{HopRow, LinkRow, PortRow, Progress};
 use definitions::network::Hop;
 use register::tables::Table;
@@ -22,7 +20,7 @@ fn arrival(
     hops: &Table<HopRow>,
     hop: Hop,
 ) -> Option<(u64, u64)>
-    ensures { Ordered number_before port_key ports.now → Ordered number_before link_key links.now → Ordered place_before hop_key hops.now → Arrives (rows ports.now) (rows links.now) (rows hops.now) hop result }
+    ensures { Arrives (rows ports.now) (rows links.now) (rows hops.now) hop result }
 {
     let Some(before) = hop.after else {
         return Some((0, 0));
@@ -42,8 +40,8 @@ fn arrival(
 
 // Passes the hop at a place: writes its arrivals, or has its port wait where the port before is not worked out.
 fn pass(ports: &mut Table<PortRow>, links: &Table<LinkRow>, hops: &mut Table<HopRow>, place: usize)
-    ensures ports_kept { Kept number_before port_key ports.old ports.new }
-    ensures hops_kept { Kept place_before hop_key hops.old hops.new }
+    ensures ports_room { room ports.new ≡ room ports.old }
+    ensures hops_room { room hops.new ≡ room hops.old }
     ensures same_count { length (rows hops.new) ≡ length (rows hops.old) }
     ensures advances { place < length (rows hops.old) → Advance ports.old links.now hops.old ports.new hops.new place (place + 1) }
 {
@@ -59,18 +57,19 @@ fn pass(ports: &mut Table<PortRow>, links: &Table<LinkRow>, hops: &mut Table<Hop
             };
             let _ = hops.replace(place, arrived);
         }
-        None => edit_under(ports, row.hop.port, &HoldUp),
+        None => edit_under(ports, row.hop.port, |port| port.held_up()),
     }
 }
 
 // Passes every hop: writes the arrivals at all hops whose ports before are worked out, and has the ports of the
 // others wait.
 pub(crate) fn advance(ports: &mut Table<PortRow>, links: &Table<LinkRow>, hops: &mut Table<HopRow>)
-    ensures ports_kept { Kept number_before port_key ports.old ports.new }
-    ensures hops_kept { Kept place_before hop_key hops.old hops.new }
+    ensures ports_room { room ports.new ≡ room ports.old }
+    ensures hops_room { room hops.new ≡ room hops.old }
     ensures same_count { length (rows hops.new) ≡ length (rows hops.old) }
     ensures advances { Advance ports.old links.now hops.old ports.new hops.new 0 (length (rows hops.old)) }
 {
+    // by place, since the rows change on the way
     for place in 0..hops.count() {
         pass(ports, links, hops, place);
     }

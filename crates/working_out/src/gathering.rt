@@ -1,8 +1,7 @@
 // The loads of one port, gathered into a lent table.
 ghost use Rattle.std.specs.Prelude.{◌≡◌, ◌≤◌, map, length};
 ghost use Rattle.definitions.specs.Network.{byte_time};
-ghost use Rattle.register.specs.Tables.{rows, Ordered};
-ghost use Rattle.working_out.specs.Keys.{number_before, link_key};
+ghost use Rattle.register.specs.Tables.{rows};
 ghost use Rattle.working_out.specs.Gathering.{link_under, row_load, Gathers, OverloadedRow, FirstPort};
 
 use crate::rows::{HopRow, LinkRow, PortRow};
@@ -20,7 +19,7 @@ pub(crate) fn byte_time(port: &Port) -> u64
 
 // The link of that number, or one of zeros where there is none.
 pub(crate) fn link_under(links: &Table<LinkRow>, number: u16) -> VirtualLink
-    ensures { Ordered number_before link_key links.now → result ≡ link_under (rows links.now) number }
+    ensures { result ≡ link_under (rows links.now) number }
 {
     match links.get(number) {
         Some(row) => row.link,
@@ -52,7 +51,7 @@ pub(crate) fn gather(
     loads: &mut [Load],
 ) -> usize
     requires { length hops.now ≤ length loads.old }
-    ensures { Gathers (rows links.now) hops.now port.now loads.old loads.new result }
+    ensures { Gathers (rows links.now) hops.now port.now loads.new result }
 {
     let mut count = 0;
     for row in hops {
@@ -72,8 +71,7 @@ pub(crate) fn first_overloaded(
     loads: &mut [Load],
 ) -> Option<u8>
     requires { length hops.now ≤ length loads.old }
-    ensures places { length loads.new ≡ length loads.old }
-    ensures first { Ordered number_before link_key links.now → FirstPort (OverloadedRow (rows links.now) hops.now) ports.now result }
+    ensures { FirstPort (OverloadedRow (rows links.now) hops.now) ports.now result }
 {
     for row in ports {
         let count = gather(links, hops, &row.port, loads);

@@ -5,7 +5,6 @@ mod arrivals;
 mod edits;
 mod figuring;
 mod gathering;
-mod marks;
 mod rings;
 pub mod rows;
 mod settling;

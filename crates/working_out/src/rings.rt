@@ -1,39 +1,17 @@
 // Rings: the lowest port that feeds itself. The ports that a port feeds are marked in their rows.
-ghost use Rattle.std.specs.Prelude.{[], ◌∷◌, Decides};
-ghost use Rattle.register.specs.Tables.{rows, Ordered};
-ghost use Rattle.working_out.specs.Keys.{number_before, port_key};
-ghost use Rattle.working_out.specs.Rings.{marked, Marked, Marks, Spreads, SpreadsAll, FeedsItself, FindsRing};
+ghost use Rattle.std.specs.Prelude.{[], ◌∷◌, ◌↔◌, IsTrue};
+ghost use Rattle.register.specs.Tables.{rows};
+ghost use Rattle.working_out.specs.Rings.{Marked, Marks, Spreads, SpreadsAll, FeedsItself, FindsRing};
 
-use crate::edits::{Edit, edit_all, edit_under};
+use crate::edits::{edit_all, edit_under};
 use crate::rows::{HopRow, PortRow};
 use register::tables::Table;
 
-// Marks the row of a port as fed, or not.
-struct Mark {
-    fed: bool,
-}
-
-impl Edit for Mark {
-    type Row = PortRow;
-
-    ghost edited = { λ m r. marked m.fed r };
-
-    fn edit(&self, row: PortRow) -> PortRow {
-        PortRow {
-            fed: self.fed,
-            ..row
-        }
-    }
-}
-
 // Whether the port is marked.
 fn is_marked(ports: &Table<PortRow>, port: u8) -> bool
-    ensures { Ordered number_before port_key ports.now → Decides result (Marked (rows ports.now) port) }
+    ensures { IsTrue result ↔ Marked (rows ports.now) port }
 {
-    match ports.get(port) {
-        Some(row) => row.fed,
-        None => false,
-    }
+    ports.get(port).is_some_and(|row| row.fed)
 }
 
 // Marks the port, and tells whether it was there without a mark.
@@ -46,7 +24,7 @@ fn mark_port(ports: &mut Table<PortRow>, port: u8) -> bool
     if row.fed {
         return false;
     }
-    edit_under(ports, port, &Mark { fed: true });
+    edit_under(ports, port, |row| row.marked(true));
     true
 }
 
@@ -89,7 +67,7 @@ fn spread_all(ports: &mut Table<PortRow>, hops: &[HopRow], from: u8)
 fn feeds_itself(ports: &mut Table<PortRow>, hops: &[HopRow], port: u8) -> bool
     ensures { FeedsItself hops.now port ports.old ports.new result }
 {
-    edit_all(ports, &Mark { fed: false });
+    edit_all(ports, |row| row.marked(false));
     spread_all(ports, hops, port);
     is_marked(ports, port)
 }
@@ -98,6 +76,7 @@ fn feeds_itself(ports: &mut Table<PortRow>, hops: &[HopRow], port: u8) -> bool
 pub(crate) fn first_in_ring(ports: &mut Table<PortRow>, hops: &[HopRow]) -> Option<u8>
     ensures { FindsRing hops.now ports.old ports.new result }
 {
+    // by place, since the rows change on the way
     for place in 0..ports.count() {
         let Some(row) = ports.at(place) else {
             return None;

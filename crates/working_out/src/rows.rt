@@ -1,6 +1,8 @@
 // The rows of the tables: records with their figures.
 ghost use Rattle.std.specs.Prelude.{◌≡◌};
 ghost use Rattle.working_out.specs.Rows.{bare_port, bare_hop};
+ghost use Rattle.working_out.specs.Marks.{opened, held_up, marked as at_progress};
+ghost use Rattle.working_out.specs.Rings.{marked};
 
 use definitions::network::{Hop, Port, VirtualLink};
 use register::keys::Keyed;
@@ -41,6 +43,40 @@ impl PortRow {
             progress: Progress::Open,
             fed: false,
         }
+    }
+
+    // This row, open again where it waits.
+    pub(crate) fn reopened(self) -> PortRow
+        ensures { result ≡ opened self }
+    {
+        match self.progress {
+            Progress::Waiting => self.at(Progress::Open),
+            _ => self,
+        }
+    }
+
+    // This row, waiting where it is open.
+    pub(crate) fn held_up(self) -> PortRow
+        ensures { result ≡ held_up self }
+    {
+        match self.progress {
+            Progress::Open => self.at(Progress::Waiting),
+            _ => self,
+        }
+    }
+
+    // This row, with the working-out come so far.
+    pub(crate) fn at(self, progress: Progress) -> PortRow
+        ensures { result ≡ at_progress progress self }
+    {
+        PortRow { progress, ..self }
+    }
+
+    // This row, marked as fed or not.
+    pub(crate) fn marked(self, fed: bool) -> PortRow
+        ensures { result ≡ marked fed self }
+    {
+        PortRow { fed, ..self }
     }
 }
 

@@ -1,8 +1,7 @@
 // Rounds in which the figures of one port after another are worked out.
 ghost use Rattle.std.specs.Prelude.{◌≡◌, ◌≤◌, List, length};
 ghost use Rattle.definitions.specs.Network.{Records};
-ghost use Rattle.register.specs.Tables.{rows, Kept};
-ghost use Rattle.working_out.specs.Keys.{number_before, place_before, port_key, hop_key};
+ghost use Rattle.register.specs.Tables.{rows, room};
 ghost use Rattle.working_out.specs.declared.rows.PortRow.{PortRow as Row};
 ghost use Rattle.working_out.specs.Gathering.{FirstPort};
 ghost use Rattle.working_out.specs.Settling.{Setting, Known, Settles, SettlesFirst, settled_row, Worked, RoundMakes, Stuck};
@@ -11,7 +10,6 @@ use crate::arrivals::advance;
 use crate::edits::edit_all;
 use crate::figuring::figures;
 use crate::gathering::gather;
-use crate::marks::Reopen;
 use crate::rows::{HopRow, LinkRow, PortRow, Progress};
 use definitions::loads::Load;
 use methods::Method;
@@ -27,8 +25,7 @@ fn settle<M: Method>(
     place: usize,
 ) -> bool
     requires { length hops.now ≤ length loads.old }
-    ensures places { length loads.new ≡ length loads.old }
-    ensures kept { Kept number_before port_key ports.old ports.new }
+    ensures same_room { room ports.new ≡ room ports.old }
     ensures settles { (r : Records) → Setting r (M.Method.worth method.now) → Known r (M.Method.worth method.now) (rows ports.old) (rows links.now) hops.now (length hops.now) → Settles r (M.Method.worth method.now) (rows links.now) hops.now place (rows ports.old) (rows ports.new) result }
 {
     let Some(row) = ports.at(place) else {
@@ -54,10 +51,7 @@ fn tried(row: PortRow, figures: Option<(u64, u64)>) -> PortRow
             progress: Progress::WorkedOut,
             ..row
         },
-        None => PortRow {
-            progress: Progress::PastLimit,
-            ..row
-        },
+        None => row.at(Progress::PastLimit),
     }
 }
 
@@ -70,11 +64,11 @@ fn settle_open<M: Method>(
     loads: &mut [Load],
 ) -> bool
     requires { length hops.now ≤ length loads.old }
-    ensures places { length loads.new ≡ length loads.old }
-    ensures kept { Kept number_before port_key ports.old ports.new }
+    ensures same_room { room ports.new ≡ room ports.old }
     ensures settles { (r : Records) → Setting r (M.Method.worth method.now) → Known r (M.Method.worth method.now) (rows ports.old) (rows links.now) hops.now (length hops.now) → SettlesFirst r (M.Method.worth method.now) (rows links.now) hops.now (length (rows ports.old)) (rows ports.old) (rows ports.new) result }
 {
     let mut any = false;
+    // by place, since the rows change on the way
     for place in 0..ports.count() {
         any |= settle(ports, links, hops, method, loads, place);
     }
@@ -90,13 +84,12 @@ fn round<M: Method>(
     loads: &mut [Load],
 ) -> bool
     requires { length (rows hops.old) ≤ length loads.old }
-    ensures places { length loads.new ≡ length loads.old }
-    ensures ports_kept { Kept number_before port_key ports.old ports.new }
-    ensures hops_kept { Kept place_before hop_key hops.old hops.new }
+    ensures ports_room { room ports.new ≡ room ports.old }
+    ensures hops_room { room hops.new ≡ room hops.old }
     ensures same_count { length (rows hops.new) ≡ length (rows hops.old) }
     ensures makes { (r : Records) → Setting r (M.Method.worth method.now) → Worked r (M.Method.worth method.now) (rows ports.old) (rows links.now) (rows hops.old) → RoundMakes r (M.Method.worth method.now) (rows links.now) (rows ports.old) (rows hops.old) (rows ports.new) (rows hops.new) result }
 {
-    edit_all(ports, &Reopen);
+    edit_all(ports, |row| row.reopened());
     advance(ports, links, hops);
     settle_open(ports, links, hops.all(), method, loads)
 }
@@ -110,9 +103,8 @@ pub(crate) fn settle_all<M: Method>(
     loads: &mut [Load],
 )
     requires { length (rows hops.old) ≤ length loads.old }
-    ensures places { length loads.new ≡ length loads.old }
-    ensures ports_kept { Kept number_before port_key ports.old ports.new }
-    ensures hops_kept { Kept place_before hop_key hops.old hops.new }
+    ensures ports_room { room ports.new ≡ room ports.old }
+    ensures hops_room { room hops.new ≡ room hops.old }
     ensures stuck { (r : Records) → Setting r (M.Method.worth method.now) → Worked r (M.Method.worth method.now) (rows ports.old) (rows links.now) (rows hops.old) → Stuck r (M.Method.worth method.now) (rows ports.new) (rows links.now) (rows hops.new) }
 {
     for _ in 0..ports.count() {
@@ -126,10 +118,6 @@ pub(crate) fn settle_all<M: Method>(
 pub(crate) fn first_with(ports: &[PortRow], progress: Progress) -> Option<u8>
     ensures { FirstPort (λ (x : Row). x.progress ≡ progress) ports.now result }
 {
-    for row in ports {
-        if row.progress == progress {
-            return Some(row.port.number);
-        }
-    }
-    None
+    let row = ports.iter().find(|row| row.progress == progress)?;
+    Some(row.port.number)
 }

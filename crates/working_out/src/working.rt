@@ -2,9 +2,8 @@
 ghost use Rattle.std.specs.Prelude.{◌≡◌, ℕ, List, length};
 ghost use Rattle.definitions.specs.declared.loads.Load.{Load as LoadRow};
 ghost use Rattle.definitions.specs.Network.{Records, WellFormed};
-ghost use Rattle.register.specs.Tables.{rows, Kept};
+ghost use Rattle.register.specs.Tables.{rows, room};
 ghost use Rattle.working_out.specs.declared.rows.LinkRow.{LinkRow as LinkRowIs};
-ghost use Rattle.working_out.specs.Keys.{number_before, place_before, port_key, hop_key};
 ghost use Rattle.working_out.specs.Rows.{net};
 ghost use Rattle.working_out.specs.Settling.{Setting, Stuck};
 ghost use Rattle.working_out.specs.Rings.{Remarked, RingTold};
@@ -12,7 +11,6 @@ ghost use Rattle.working_out.specs.Works.{Cleared, Judged, Works};
 
 use crate::edits::edit_all;
 use crate::gathering::first_overloaded;
-use crate::marks::{ClearHop, ClearPort};
 use crate::rings::first_in_ring;
 use crate::rows::{HopRow, LinkRow, PortRow, Progress};
 use crate::settling::{first_with, settle_all};
@@ -25,8 +23,8 @@ use register::tables::Table;
 fn clear_figures(ports: &mut Table<PortRow>, hops: &mut Table<HopRow>)
     ensures { Cleared ports.old hops.old ports.new hops.new }
 {
-    edit_all(ports, &ClearPort);
-    edit_all(hops, &ClearHop);
+    edit_all(ports, |row| PortRow::new(row.port));
+    edit_all(hops, |row| HopRow::new(row.hop));
 }
 
 // The lowest port that feeds itself. Only where a port waits can there be one.
@@ -39,16 +37,18 @@ fn ring_of(ports: &mut Table<PortRow>, hops: &[HopRow]) -> Option<u8>
 }
 
 // Why not every port was worked out, where nothing more can be: a ring, or a figure past the limit.
-fn judge(ports: &mut Table<PortRow>, hops: &[HopRow]) -> Option<Refusal>
-    ensures kept { Kept number_before port_key ports.old ports.new }
+fn judge(ports: &mut Table<PortRow>, hops: &[HopRow]) -> Result<(), Refusal>
+    ensures same_room { room ports.new ≡ room ports.old }
     ensures judged { (r : Records) (worth : List LoadRow → ℕ) (ls : List LinkRowIs) → Setting r worth → Stuck r worth (rows ports.old) ls hops.now → Judged r worth (rows ports.new) ls hops.now result }
 {
     let past = first_with(ports.all(), Progress::PastLimit);
     if let Some(port) = ring_of(ports, hops) {
-        return Some(Refusal::PortInRing { port });
+        return Err(Refusal::PortInRing { port });
     }
-    let port = past?;
-    Some(Refusal::FigurePastLimit { port })
+    match past {
+        Some(port) => Err(Refusal::FigurePastLimit { port }),
+        None => Ok(()),
+    }
 }
 
 // Works out the figures of the network in the tables by the method, over a load table with a place for every hop.
@@ -61,8 +61,8 @@ pub fn work_out<M: Method>(
     loads: &mut [Load],
 ) -> Result<(), Refusal>
     ensures load_places { length loads.new ≡ length loads.old }
-    ensures ports_kept { Kept number_before port_key ports.old ports.new }
-    ensures hops_kept { Kept place_before hop_key hops.old hops.new }
+    ensures ports_room { room ports.new ≡ room ports.old }
+    ensures hops_room { room hops.new ≡ room hops.old }
     ensures works { WellFormed (net (rows ports.old) (rows links.now) (rows hops.old)) → Works (net (rows ports.old) (rows links.now) (rows hops.old)) (M.Method.worth method.now) (length loads.old) (rows ports.new) (rows links.now) (rows hops.new) result }
 {
     clear_figures(ports, hops);
@@ -73,9 +73,9 @@ pub fn work_out<M: Method>(
         return Err(Refusal::PortOverloaded { port });
     }
     settle_all(ports, links, hops, method, loads);
-    if let Some(refusal) = judge(ports, hops.all()) {
+    let judged = judge(ports, hops.all());
+    if judged.is_err() {
         clear_figures(ports, hops);
-        return Err(refusal);
     }
-    Ok(())
+    judged
 }

@@ -1,3 +1,5 @@
+use Rattle.std.proofs.Common.{true, refl, rules}
+use Rattle.working_out.specs.Rings.{marked}
 use Rattle.working_out.proofs.RingMarks.{left_none, left_marked}
 use Rattle.working_out.proofs.rings.mark_port.Goals as goal
 
@@ -6,3 +8,8 @@ returns-in_default c = left_none c.args.port c.args.ports.now c.in_default.ensur
 
 pub returns-then-row : goal.returns-then-row
 returns-then-row c = left_marked c.args.port c.args.ports.now c.in-Some.row c.in-Some.ensures c.if-row.true
+
+pub returns : goal.returns
+returns c =
+    let edited = c.edit_under.ensures (marked true) (λ x y called. search rules) in
+    (edited.same_room, (c.in-Some.row, c.in-Some.ensures.0, c.in-Some.ensures.1, c.if-row.false), edited.edited (λ r. refl))

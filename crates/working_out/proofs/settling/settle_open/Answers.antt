@@ -1,15 +1,12 @@
 use Rattle.std.proofs.Common.{◌∙◌, arith}
 use Rattle.register.specs.Tables.{rows}
-use Rattle.working_out.specs.Keys.{number_before, port_key}
-use Rattle.working_out.proofs.Edited.{kept_on}
 use Rattle.working_out.proofs.SettledTable.{settle_more}
 use Rattle.working_out.proofs.settling.settle_open.Goals as goal
 
 pub loop-place-preserved : goal.loop-place-preserved
 loop-place-preserved g c =
-    let (places, kept, so_far) = c.loop-place.invariant in (
-      c.settle-any.ensures.places ∙ places,
-      kept_on number_before port_key c.args.ports.now c.loop-place.ports c.settle-any.new.ports kept c.settle-any.ensures.kept,
+    let (room, so_far) = c.loop-place.invariant in (
+      c.settle-any.ensures.same_room ∙ room,
       λ r s known.
           let old = so_far r s known in
           settle_more r (g.M.Method.worth c.args.method.now) (rows c.args.links.now) c.args.hops.now c.loop-place.place (rows c.args.ports.now) (rows c.loop-place.ports) (rows c.settle-any.new.ports) c.loop-place.any c.settle-any.result
