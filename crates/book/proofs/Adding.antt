@@ -1,5 +1,5 @@
 -- What a call did is a call more in every list of calls that led to the book.
-use Rattle.std.proofs.Common.{◌≡◌, ℕ, zero, suc, List, [], ◌∷◌, ◌++◌, map, Some, None, Ok, Option, Result, sym, refl, ap, ◌∙◌, subst, arith}
+use Rattle.std.proofs.Common.{◌≡◌, ℕ, zero, suc, List, [], ◌∷◌, ◌++◌, map, Some, None, Ok, Option, Result, MatchOption, sym, refl, ap, ◌∙◌, subst, arith}
 use Rattle.std.specs.List.{AllByRecursion, slice_get}
 use Rattle.definitions.specs.declared.network.Port.{Port}
 use Rattle.definitions.specs.declared.network.VirtualLink.{VirtualLink}
@@ -114,12 +114,17 @@ pub asking_adds : (c : Call) → Fits c → (a : Answer) (b : Book) → ((s : St
 asking_adds c fits a b does = question_adds c fits a b (λ cs as' m. does m.state m.holds)
 
 -- the record of the row at a place
-pub nth_map_some : {R S : Type 0} (f : R → S) (xs : List R) (i : ℕ) (x : R) → Some x ≡ slice_get xs i → Some (f x) ≡ slice_get (map f xs) i
+nth_map_some : {R S : Type 0} (f : R → S) (xs : List R) (i : ℕ) (x : R) → Some x ≡ slice_get xs i → Some (f x) ≡ slice_get (map f xs) i
 nth_map_some f [] i x e = let z : ◌≡◌ {A = ℕ} 0 1 = cc in absurd (omega arith)
 nth_map_some f (y ∷ ys) zero x e = let q : x ≡ y = cc in ap (λ z. Some (f z)) q
 nth_map_some f (y ∷ ys) (suc i) x e = nth_map_some f ys i x e
 
-pub nth_map_none : {R S : Type 0} (f : R → S) (xs : List R) (i : ℕ) → None ≡ slice_get xs i → None ≡ slice_get (map f xs) i
+nth_map_none : {R S : Type 0} (f : R → S) (xs : List R) (i : ℕ) → None ≡ slice_get xs i → None ≡ slice_get (map f xs) i
 nth_map_none f [] i e = refl
 nth_map_none f (y ∷ ys) zero e = let z : ◌≡◌ {A = ℕ} 0 1 = cc in absurd (omega arith)
 nth_map_none f (y ∷ ys) (suc i) e = nth_map_none f ys i e
+
+pub nth_mapped : {R S : Type 0} (f : R → S) (xs : List R) (i : ℕ) (o : Option R) → o ≡ slice_get xs i → (r : Option S) → MatchOption o (r ≡ None) (λ x. r ≡ Some (f x))
+    → r ≡ slice_get (map f xs) i
+nth_mapped f xs i (Some x) e r is = is ∙ nth_map_some f xs i x e
+nth_mapped f xs i None e r is = is ∙ nth_map_none f xs i e

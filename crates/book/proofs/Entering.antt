@@ -10,14 +10,13 @@ use Rattle.definitions.specs.declared.refusals.Refusal.TheVariants.{PortPresent,
 use Rattle.definitions.specs.Lists.{In, some}
 use Rattle.definitions.specs.Network.{port_before, link_before, most_ports, most_links}
 use Rattle.definitions.specs.Entries.{Places, port_entry, link_entry, entry_ground, entered, placed, rate_known, gap_known, lengths_kept, has_port, has_link, full}
-use Rattle.register.specs.declared.tables.Table.{Table}
-use Rattle.register.specs.declared.tables.Insertion.TheVariants.{Added, Present, Full}
+use Rattle.register.specs.declared.tables.NotInserted.TheVariants.{Present, Full}
 use Rattle.register.specs.Tables.{rows, room, by_key, Inserting}
 use Rattle.working_out.specs.declared.rows.PortRow.{PortRow}
 use Rattle.working_out.specs.declared.rows.LinkRow.{LinkRow}
 use Rattle.working_out.specs.declared.rows.HopRow.{HopRow}
 use Rattle.book.specs.declared.books.Book.{Book}
-use Rattle.working_out.specs.Keys.{number_before, port_key, link_key}
+use Rattle.working_out.specs.Keys.{number_before, port_key, link_key, Ports, Links, Hops}
 use Rattle.book.specs.Books.{records, places, Same, Doing}
 use Rattle.book.proofs.Adding.{same_records}
 
@@ -62,20 +61,20 @@ same_places p q l m h k a b c =
 -- a book of the same tables is as it was
 pub unchanged : (b d : Book) → d.ports ≡ b.ports → d.links ≡ b.links → d.hops ≡ b.hops → d.standing ≡ b.standing → Same b d
 unchanged b d p l h s = record {
-  ports = ap (λ (t : Table PortRow). rows t) p;
-  links = ap (λ (t : Table LinkRow). rows t) l;
-  hops = ap (λ (t : Table HopRow). rows t) h;
+  ports = ap (λ (t : Ports). rows t) p;
+  links = ap (λ (t : Links). rows t) l;
+  hops = ap (λ (t : Hops). rows t) h;
   standing = s;
-  tables = same_places _ _ _ _ _ _ (ap (λ (t : Table PortRow). room t) p) (ap (λ (t : Table LinkRow). room t) l) (ap (λ (t : Table HopRow). room t) h);
+  tables = same_places _ _ _ _ _ _ (ap (λ (t : Ports). room t) p) (ap (λ (t : Links). room t) l) (ap (λ (t : Hops). room t) h);
 }
 
-abbrev pub links_of : Table LinkRow → List VirtualLink
+abbrev pub links_of : Links → List VirtualLink
 links_of t = map (λ (r : LinkRow). r.link) (rows t)
 
-abbrev pub hops_of : Table HopRow → List Hop
+abbrev pub hops_of : Hops → List Hop
 hops_of t = map (λ (r : HopRow). r.hop) (rows t)
 
-abbrev pub ports_of : Table PortRow → List Port
+abbrev pub ports_of : Ports → List Port
 ports_of t = map (λ (r : PortRow). r.port) (rows t)
 
 -- ## Ports
@@ -85,9 +84,9 @@ module _ (b d : Book) (row : PortRow) (known : rate_known row.port ≡ true) (li
   absent_port = none_under (λ (r : PortRow). r.port) port_key row.port.number (λ (p : Port). eqb p.number row.port.number)
       (λ y n. ne_eqb y.port.number row.port.number n) (rows b.ports)
 
-  pub port_added : Inserting number_before port_key most_ports row b.ports d.ports Added → d.standing ≡ false
+  pub port_added : room d.ports ≡ room b.ports → Inserting number_before port_key most_ports row b.ports d.ports (Ok tt) → d.standing ≡ false
       → Doing (entry_ground (places b) (records b) (port_entry row.port)) (entered (records b) (port_entry row.port)) b d (Ok tt)
-  port_added (kept, less, fresh, new) down =
+  port_added same (less, fresh, new) down =
       let ground : entry_ground (places b) (records b) (port_entry row.port) ≡ None
       = rw (known, absent_port fresh, not_full_told (λ (r : PortRow). r.port) (rows b.ports) (room b.ports) most_ports less) in
       subst (λ (o : Option Refusal). Doing o (entered (records b) (port_entry row.port)) b d (Ok tt)) (sym ground) (
@@ -95,10 +94,10 @@ module _ (b d : Book) (row : PortRow) (known : rate_known row.port ≡ true) (li
         same_records _ _ _ _ _ _ (ap (map (λ (r : PortRow). r.port)) new ∙ map_placed (λ (r : PortRow). r.port) number_before port_key port_before (λ x y. refl) row (rows b.ports))
             (ap links_of links) (ap hops_of hops),
         down,
-        same_places _ _ _ _ _ _ kept.same_room (ap (λ (t : Table LinkRow). room t) links) (ap (λ (t : Table HopRow). room t) hops),
+        same_places _ _ _ _ _ _ same (ap (λ (t : Links). room t) links) (ap (λ (t : Hops). room t) hops),
       )
 
-  pub port_present : Inserting number_before port_key most_ports row b.ports d.ports Present → d.standing ≡ b.standing
+  pub port_present : Inserting number_before port_key most_ports row b.ports d.ports (Err Present) → d.standing ≡ b.standing
       → Doing (entry_ground (places b) (records b) (port_entry row.port)) (entered (records b) (port_entry row.port)) b d (Err PortPresent)
   port_present (same, (y, i, e)) stays =
       let there : has_port (records b) row.port.number ≡ true
@@ -108,7 +107,7 @@ module _ (b d : Book) (row : PortRow) (known : rate_known row.port ≡ true) (li
       subst (λ (o : Option Refusal). Doing o (entered (records b) (port_entry row.port)) b d (Err PortPresent)) (sym ground)
       (refl, unchanged b d same links hops stays)
 
-  pub port_full : Inserting number_before port_key most_ports row b.ports d.ports Full → d.standing ≡ b.standing
+  pub port_full : Inserting number_before port_key most_ports row b.ports d.ports (Err Full) → d.standing ≡ b.standing
       → Doing (entry_ground (places b) (records b) (port_entry row.port)) (entered (records b) (port_entry row.port)) b d (Err PortTableFull)
   port_full (same, none_left, fresh) stays =
       let ground : entry_ground (places b) (records b) (port_entry row.port) ≡ Some PortTableFull
@@ -124,9 +123,9 @@ module _ (b d : Book) (row : LinkRow) (known : gap_known row.link ≡ true) (len
   absent_link = none_under (λ (r : LinkRow). r.link) link_key row.link.number (λ (l : VirtualLink). eqb l.number row.link.number)
       (λ y n. ne_eqb y.link.number row.link.number n) (rows b.links)
 
-  pub link_added : Inserting number_before link_key most_links row b.links d.links Added → d.standing ≡ false
+  pub link_added : room d.links ≡ room b.links → Inserting number_before link_key most_links row b.links d.links (Ok tt) → d.standing ≡ false
       → Doing (entry_ground (places b) (records b) (link_entry row.link)) (entered (records b) (link_entry row.link)) b d (Ok tt)
-  link_added (kept, less, fresh, new) down =
+  link_added same (less, fresh, new) down =
       let ground : entry_ground (places b) (records b) (link_entry row.link) ≡ None
       = rw (known, lengths, absent_link fresh, not_full_told (λ (r : LinkRow). r.link) (rows b.links) (room b.links) most_links less) in
       subst (λ (o : Option Refusal). Doing o (entered (records b) (link_entry row.link)) b d (Ok tt)) (sym ground) (
@@ -135,10 +134,10 @@ module _ (b d : Book) (row : LinkRow) (known : gap_known row.link ≡ true) (len
             (ap (map (λ (r : LinkRow). r.link)) new ∙ map_placed (λ (r : LinkRow). r.link) number_before link_key link_before (λ x y. refl) row (rows b.links))
             (ap hops_of hops),
         down,
-        same_places _ _ _ _ _ _ (ap (λ (t : Table PortRow). room t) ports) kept.same_room (ap (λ (t : Table HopRow). room t) hops),
+        same_places _ _ _ _ _ _ (ap (λ (t : Ports). room t) ports) same (ap (λ (t : Hops). room t) hops),
       )
 
-  pub link_present : Inserting number_before link_key most_links row b.links d.links Present → d.standing ≡ b.standing
+  pub link_present : Inserting number_before link_key most_links row b.links d.links (Err Present) → d.standing ≡ b.standing
       → Doing (entry_ground (places b) (records b) (link_entry row.link)) (entered (records b) (link_entry row.link)) b d (Err LinkPresent)
   link_present (same, (y, i, e)) stays =
       let there : has_link (records b) row.link.number ≡ true
@@ -148,7 +147,7 @@ module _ (b d : Book) (row : LinkRow) (known : gap_known row.link ≡ true) (len
       subst (λ (o : Option Refusal). Doing o (entered (records b) (link_entry row.link)) b d (Err LinkPresent)) (sym ground)
       (refl, unchanged b d ports same hops stays)
 
-  pub link_full : Inserting number_before link_key most_links row b.links d.links Full → d.standing ≡ b.standing
+  pub link_full : Inserting number_before link_key most_links row b.links d.links (Err Full) → d.standing ≡ b.standing
       → Doing (entry_ground (places b) (records b) (link_entry row.link)) (entered (records b) (link_entry row.link)) b d (Err LinkTableFull)
   link_full (same, none_left, fresh) stays =
       let ground : entry_ground (places b) (records b) (link_entry row.link) ≡ Some LinkTableFull

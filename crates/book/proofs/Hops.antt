@@ -1,5 +1,5 @@
 -- Entering a hop.
-use Rattle.std.proofs.Common.{◌≡◌, ℕ, zero, suc, Bool, true, false, cond, ◌&&◌, eqb, List, [], ◌∷◌, map, length, take, drop, is_some, Some, None, Ok, Err, Option, sym, refl, ap, ◌∙◌, subst, inl, inr, arith}
+use Rattle.std.proofs.Common.{◌≡◌, ℕ, zero, suc, Bool, true, false, cond, ◌&&◌, eqb, List, [], ◌∷◌, map, length, take, drop, is_some, Some, None, Ok, Err, Option, Result, MatchOption, sym, refl, ap, ◌∙◌, subst, inl, inr, arith}
 use Rattle.std.proofs.lemmas.Bool.{eq-eqb, ne_eqb, eqb-true, and_from, and_left, and_right, cases_Bool, both_ways}
 use Rattle.definitions.specs.declared.network.Port.{Port}
 use Rattle.definitions.specs.declared.network.VirtualLink.{VirtualLink}
@@ -8,9 +8,8 @@ use Rattle.definitions.specs.declared.refusals.Refusal.{Refusal}
 use Rattle.definitions.specs.declared.refusals.Refusal.TheVariants.{HopTableFull}
 use Rattle.definitions.specs.Lists.{some, ascending}
 use Rattle.definitions.specs.Network.{find_port, hop_before, most_hops}
-use Rattle.definitions.specs.Entries.{hop_entry, entry_ground, entered, first_met, hop_grounds, has_hop, full}
-use Rattle.register.specs.declared.tables.Table.{Table}
-use Rattle.register.specs.declared.tables.Insertion.TheVariants.{Added, Present, Full}
+use Rattle.definitions.specs.Entries.{hop_entry, entry_ground, entered, first_met, hop_grounds, has_port, has_hop, full}
+use Rattle.register.specs.declared.tables.NotInserted.TheVariants.{Present, Full}
 use Rattle.register.specs.Tables.{rows, room, by_key, Getting, Inserting}
 use Rattle.theory.proofs.Members.{in_map}
 use Rattle.theory.proofs.Lookups.{find_in}
@@ -19,7 +18,9 @@ use Rattle.working_out.specs.declared.rows.PortRow.{PortRow}
 use Rattle.working_out.specs.declared.rows.LinkRow.{LinkRow}
 use Rattle.working_out.specs.declared.rows.HopRow.{HopRow}
 use Rattle.book.specs.declared.books.Book.{Book}
-use Rattle.working_out.specs.Keys.{number_before, place_before, port_key, link_key, hop_key}
+use Rattle.std.specs.Option.{ok_or}
+use Rattle.working_out.specs.Works.{refused_by}
+use Rattle.working_out.specs.Keys.{number_before, place_before, port_key, link_key, hop_key, Ports, Links, Hops}
 use Rattle.working_out.proofs.Tabled.{ports_ascend, keys_agree}
 use Rattle.book.specs.Books.{records, places, unfit, Doing}
 use Rattle.book.proofs.Adding.{same_records}
@@ -68,6 +69,27 @@ port_found n xs row up (i, e) =
     ap (find_port (map (λ (x : PortRow). x.port) xs)) (sym e)
     ∙ find_in (λ (p : Port). p.number) _ (map (λ (x : PortRow). x.port) xs) (sym (ports_ascend xs) ∙ up) row.port (in_map (λ (x : PortRow). x.port) xs row i)
 
+pub found_port : (b : Book) (n : ℕ) (o : Option PortRow) → Getting port_key (rows b.ports) n o → (r : Option Port) → MatchOption o (r ≡ None) (λ row. r ≡ Some row.port)
+    → MatchOption r (has_port (records b) n ≡ false) (λ p. (has_port (records b) n ≡ true) × (find_port (records b).ports n ≡ p))
+found_port b n (Some row) got r is = subst (λ (z : Option Port). MatchOption z (has_port (records b) n ≡ false) (λ p. (has_port (records b) n ≡ true) × (find_port (records b).ports n ≡ p))) (sym is)
+    (sym (has_port_told n (rows b.ports) (Some row) got), port_found n (rows b.ports) row b.ports.ascends got)
+found_port b n None got r is = subst (λ (z : Option Port). MatchOption z (has_port (records b) n ≡ false) (λ p. (has_port (records b) n ≡ true) × (find_port (records b).ports n ≡ p))) (sym is)
+    (sym (has_port_told n (rows b.ports) None got))
+
+-- ## Grounds and answers
+
+pub fit_of : (o : Option Refusal) → Ok tt ≡ refused_by o → None ≡ o
+fit_of None h = refl
+fit_of (Some e) h = let z : ◌≡◌ {A = ℕ} 0 1 = cc in absurd (omega arith)
+
+pub unfit_of : (o : Option Refusal) (e : Refusal) → Err e ≡ refused_by o → Some e ≡ o
+unfit_of None e h = let z : ◌≡◌ {A = ℕ} 0 1 = cc in absurd (omega arith)
+unfit_of (Some f) e h = cc
+
+-- what stands for a missing row
+pub missing : {X : Type 0} (o : Option X) (e x : Refusal) → o ≡ None → ◌≡◌ {A = Result X Refusal} (Err x) (ok_or o e) → x ≡ e
+missing o e x none h = let k : ◌≡◌ {A = Result _ Refusal} (Err x) (Err e) = h ∙ ap (λ p. ok_or p e) none in cc
+
 -- ## Grounds in two parts
 
 pub met_first : (n : ℕ) (gs : List (Bool × Refusal)) (e : Refusal) → first_met (take n gs) ≡ Some e → first_met gs ≡ Some e
@@ -99,9 +121,9 @@ module _ (b d : Book) (row : HopRow) (fit : None ≡ unfit (records b) row.hop) 
   last_ground : entry_ground (places b) (records b) (hop_entry row.hop) ≡ cond (full (length (map (λ (x : HopRow). x.hop) (rows b.hops))) (room b.hops) most_hops) (Some HopTableFull) None
   last_ground = met_later 6 (hop_grounds (places b) (records b) row.hop) (sym fit)
 
-  pub hop_added : Inserting place_before hop_key most_hops row b.hops d.hops Added → d.standing ≡ false
+  pub hop_added : room d.hops ≡ room b.hops → Inserting place_before hop_key most_hops row b.hops d.hops (Ok tt) → d.standing ≡ false
       → Doing (entry_ground (places b) (records b) (hop_entry row.hop)) (entered (records b) (hop_entry row.hop)) b d (Ok tt)
-  hop_added (kept, less, fresh, new) down =
+  hop_added same (less, fresh, new) down =
       let ground : entry_ground (places b) (records b) (hop_entry row.hop) ≡ None
       = last_ground ∙ rw (not_full_told (λ (x : HopRow). x.hop) (rows b.hops) (room b.hops) most_hops less) in
       subst (λ (o : Option Refusal). Doing o (entered (records b) (hop_entry row.hop)) b d (Ok tt)) (sym ground) (
@@ -109,10 +131,10 @@ module _ (b d : Book) (row : HopRow) (fit : None ≡ unfit (records b) row.hop) 
         same_records _ _ _ _ _ _ (ap ports_of ports) (ap links_of links)
             (ap (map (λ (x : HopRow). x.hop)) new ∙ map_placed (λ (x : HopRow). x.hop) place_before hop_key hop_before keys_agree row (rows b.hops)),
         down,
-        same_places _ _ _ _ _ _ (ap (λ (t : Table PortRow). room t) ports) (ap (λ (t : Table LinkRow). room t) links) kept.same_room,
+        same_places _ _ _ _ _ _ (ap (λ (t : Ports). room t) ports) (ap (λ (t : Links). room t) links) same,
       )
 
-  pub hop_full : Inserting place_before hop_key most_hops row b.hops d.hops Full → d.standing ≡ b.standing
+  pub hop_full : Inserting place_before hop_key most_hops row b.hops d.hops (Err Full) → d.standing ≡ b.standing
       → Doing (entry_ground (places b) (records b) (hop_entry row.hop)) (entered (records b) (hop_entry row.hop)) b d (Err HopTableFull)
   hop_full (same, none_left, fresh) stays =
       let ground : entry_ground (places b) (records b) (hop_entry row.hop) ≡ Some HopTableFull
@@ -121,8 +143,8 @@ module _ (b d : Book) (row : HopRow) (fit : None ≡ unfit (records b) row.hop) 
       (refl, unchanged b d ports links same stays)
 
 -- a hop that is there would have been unfit
-pub hop_twice : {C : Type 0} (b : Book) (u : Table HopRow) (row : HopRow) → None ≡ unfit (records b) row.hop
-    → Inserting place_before hop_key most_hops row b.hops u Present → C
+pub hop_twice : {C : Type 0} (b : Book) (u : Hops) (row : HopRow) → None ≡ unfit (records b) row.hop
+    → Inserting place_before hop_key most_hops row b.hops u (Err Present) → C
 hop_twice {C = C} b u row fit (same, (y, i, e)) =
     let there : has_hop (records b) row.hop.link row.hop.port ≡ true
     = some_under (λ (x : HopRow). x.hop) hop_key (hop_key row) (λ (h : Hop). eqb h.link row.hop.link && eqb h.port row.hop.port) (this_place row.hop.link row.hop.port) (rows b.hops) y i e in

@@ -11,14 +11,12 @@ use Rattle.definitions.specs.declared.refusals.Refusal.{Refusal}
 use Rattle.definitions.specs.declared.refusals.Refusal.TheVariants.{LinkUnknown}
 use Rattle.definitions.specs.Lists.{In, every, some, ascending}
 use Rattle.definitions.specs.Entries.{begins, has_link, removal_ground, removed}
-use Rattle.register.specs.declared.tables.Table.{Table}
-use Rattle.register.specs.Tables.{rows, room, by_key, Found, Starts, Kept, Removing}
+use Rattle.register.specs.Tables.{rows, room, by_key, TableBy, Found, Starts, Removing}
 use Rattle.register.proofs.Sorted.{without_ascends}
-use Rattle.working_out.specs.declared.rows.PortRow.{PortRow}
 use Rattle.working_out.specs.declared.rows.LinkRow.{LinkRow}
 use Rattle.working_out.specs.declared.rows.HopRow.{HopRow}
 use Rattle.book.specs.declared.books.Book.{Book}
-use Rattle.working_out.specs.Keys.{number_before, place_before, link_key, hop_key}
+use Rattle.working_out.specs.Keys.{number_before, place_before, link_key, hop_key, Ports}
 use Rattle.book.specs.Books.{records, Doing}
 use Rattle.book.proofs.Adding.{same_records}
 use Rattle.book.proofs.Entering.{none_under, same_places, unchanged, ports_of}
@@ -178,9 +176,9 @@ module _ (rs : List HopRow) (l from to : ℕ) (up : ascending (by_key place_befo
 -- ## Removing
 
 -- a run within the table is removed
-pub run_gone : {R K : Type 0} (lt : K → K → Bool) (key : R → K) (from to : ℕ) (t u : Table R) (r : Bool) → Removing lt key from to t u r → from ≤ to → to ≤ length (rows t)
-    → Kept lt key t u × (rows u ≡ take from (rows t) ++ drop to (rows t))
-run_gone lt key from to t u true (kept, a, b, e) le most = (kept, e)
+pub run_gone : {R K : Type 0} (lt : K → K → Bool) (key : R → K) (from to : ℕ) (t u : TableBy lt key) (r : Bool) → Removing lt key from to t u r → from ≤ to → to ≤ length (rows t)
+    → (room u ≡ room t) × (rows u ≡ take from (rows t) ++ drop to (rows t))
+run_gone lt key from to t u true (same, a, b, e) le most = (same, e)
 run_gone lt key from to t u false (same, n) le most = absurd (n (le, most))
 
 -- the link at its place is the only one of its number
@@ -216,17 +214,17 @@ pub link_taken : (b d : Book) (l place from to : ℕ) (x y : Bool)
     → d.ports ≡ b.ports → d.standing ≡ false
     → Doing (removal_ground (records b) l) (removed (records b) l) b d (Ok tt)
 link_taken b d l place from to x y found st re links hops ports down =
-    let (kept-l, new-l) = run_gone number_before link_key place (place + 1) b.links d.links x links (omega arith) (omega (arith, found.0)) in
-    let (kept-h, new-h) = run_gone place_before hop_key from to b.hops d.hops y hops re.in_order re.within in
+    let (room-l, new-l) = run_gone number_before link_key place (place + 1) b.links d.links x links (omega arith) (omega (arith, found.0)) in
+    let (room-h, new-h) = run_gone place_before hop_key from to b.hops d.hops y hops re.in_order re.within in
     let known : has_link (records b) l ≡ true = link_known (rows b.links) place found.0 found.1 in
     let ground : removal_ground (records b) l ≡ None = rw known in
     subst (λ (o : Option Refusal). Doing o (removed (records b) l) b d (Ok tt)) (sym ground) (
       refl,
       same_records _ _ _ _ _ _ (ap ports_of ports)
-          (ap (map (λ (r : LinkRow). r.link)) (new-l ∙ rw (add-one place)) ∙ sym (one_link_left l (rows b.links) place b.links_ascend found.0 found.1))
-          (ap (map hop_of) new-h ∙ sym (others_left (rows b.hops) l from to b.hops_ascend st re)),
+          (ap (map (λ (r : LinkRow). r.link)) (new-l ∙ rw (add-one place)) ∙ sym (one_link_left l (rows b.links) place b.links.ascends found.0 found.1))
+          (ap (map hop_of) new-h ∙ sym (others_left (rows b.hops) l from to b.hops.ascends st re)),
       down,
-      same_places _ _ _ _ _ _ (ap (λ (t : Table PortRow). room t) ports) kept-l.same_room kept-h.same_room,
+      same_places _ _ _ _ _ _ (ap (λ (t : Ports). room t) ports) room-l room-h,
     )
   where
     link_known : (rs : List LinkRow) (i : ℕ) → i < length rs → ((d : LinkRow) → link_key (get_or rs i d) ≡ l)

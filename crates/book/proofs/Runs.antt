@@ -1,65 +1,63 @@
 -- Walking over the hops of a link.
-use Rattle.std.proofs.Common.{◌≡◌, ℕ, ◌+◌, ◌<◌, ◌≤◌, Bool, true, false, ◌||◌, List, length, get_or, drop, is_some, Some, None, sym, refl, ap, ◌∙◌, inl, inr, arith}
-use Rattle.std.proofs.lemmas.Bool.{cases_lt}
-use Rattle.std.proofs.lemmas.List.{get_or_default, at_drop_more, at_drop_all}
+use Rattle.std.proofs.Common.{◌≡◌, ℕ, ◌+◌, ◌-◌, ◌<◌, ◌≤◌, Bool, true, false, ◌||◌, List, [], ◌∷◌, eqb, length, get_or, take, drop, Some, None, refl, ap, ◌∙◌, subst, arith}
+use Rattle.std.specs.List.{AllWithin, HoldsAt, list_any}
+use Rattle.std.specs.Option.{is_none}
+use Rattle.std.proofs.lemmas.Bool.{eqb-true, eqb-false}
+use Rattle.std.proofs.lemmas.List.{get_or-drop, length-drop, length-take}
 use Rattle.definitions.specs.declared.network.Hop.{Hop}
 use Rattle.definitions.specs.Lists.{some}
 use Rattle.definitions.specs.Entries.{begins}
 use Rattle.working_out.specs.declared.rows.HopRow.{HopRow}
 use Rattle.book.specs.LinkRuns.{RunEnd}
 
-module _ (rs : List HopRow) (l from place : ℕ) (start : from ≤ place) (lt : place < length rs)
-    (old : (k : ℕ) (d : HopRow) → from ≤ k → k < place → (get_or rs k d).hop.link ≡ l) where
-  -- a row of another link ends the run
-  pub run_stops : (d : HopRow) → ¬ ((get_or rs place d).hop.link ≡ l) → RunEnd rs l from place
-  run_stops d other = record {
-    in_order = start;
-    within = omega arith;
-    alike = old;
-    stops = λ _ e q. other (ap (λ (r : HopRow). r.hop.link) (get_or_default rs place d e lt) ∙ q);
+module _ (rs : List HopRow) (l from : ℕ) (le : from ≤ length rs) where
+  -- what stands so many places after the start
+  further : (k : ℕ) (d : HopRow) → from ≤ k → get_or (drop from rs) (k - from) d ≡ get_or rs k d
+  further k d a =
+      let e : from + (k - from) ≡ k = omega arith in
+      get_or-drop from rs (k - from) d ∙ ap (λ n. get_or rs n d) e
+
+  -- the first row of another link ends the run
+  pub run_stops : (i : ℕ) → (i < length (drop from rs)) × HoldsAt (λ (r : HopRow). ¬ (r.hop.link ≡ l)) (drop from rs) i × AllWithin (λ (r : HopRow). r.hop.link ≡ l) (drop from rs) 0 i
+      → RunEnd rs l from (from + i)
+  run_stops i (lt, other, same) = record {
+    in_order = omega arith;
+    within = omega (arith, length-drop from rs);
+    alike = λ k d a b. subst (λ (r : HopRow). r.hop.link ≡ l) (further k d a) (same (k - from) d (omega arith) (omega arith));
+    stops = λ _ d e. other d (ap (λ (r : HopRow). r.hop.link) (get_or-drop from rs i d) ∙ e);
   }
 
-  -- one more of the link
-  pub run_goes_on : (d : HopRow) → (get_or rs place d).hop.link ≡ l → (k : ℕ) (e : HopRow) → from ≤ k → k < place + 1 → (get_or rs k e).hop.link ≡ l
-  run_goes_on d same k e a b = elim (cases_lt k place) [
-    | inl less ↦ old k e a less
-    | inr more ↦
-        let q : k ≡ place = omega arith in
-        ap (λ n. (get_or rs n e).hop.link) q ∙ ap (λ (r : HopRow). r.hop.link) (get_or_default rs place e d lt) ∙ same
-  ]
+  -- where there is none, it goes to the end
+  pub run_all : AllWithin (λ (r : HopRow). r.hop.link ≡ l) (drop from rs) 0 (length (drop from rs)) → RunEnd rs l from (length rs)
+  run_all same = record {
+    in_order = le;
+    within = omega arith;
+    alike = λ k d a b. subst (λ (r : HopRow). r.hop.link ≡ l) (further k d a) (same (k - from) d (omega arith) (omega (arith, length-drop from rs)));
+    stops = λ lt. absurd (omega arith);
+  }
 
--- the run goes to the end
-pub run_all : (rs : List HopRow) (l from : ℕ) → from ≤ length rs → ((k : ℕ) (d : HopRow) → from ≤ k → k < length rs → (get_or rs k d).hop.link ≡ l) → RunEnd rs l from (length rs)
-run_all rs l from le old = record { in_order = le; within = omega arith; alike = old; stops = λ lt. absurd (omega arith) }
+-- a run has rows exactly where its end is not its start
+module _ (rs xs : List HopRow) (l from to : ℕ) (same : xs ≡ rs) (re : RunEnd rs l from to) where
+  pub run_empty : eqb (length (take (to - from) (drop from xs))) 0 ≡ true → from ≡ to
+  run_empty e =
+      let none = eqb-true (length (take (to - from) (drop from xs))) 0 e in
+      omega (arith, none, length-take (to - from) (drop from xs), length-drop from xs, ap length same, re.in_order, re.within)
+
+  pub run_some : eqb (length (take (to - from) (drop from xs))) 0 ≡ false → ¬ (from ≡ to)
+  run_some e stop =
+      let some = eqb-false (length (take (to - from) (drop from xs))) 0 e in
+      some (omega (arith, stop, length-take (to - from) (drop from xs)))
 
 -- a hop after none begins its link
-pub none_begins : (h : Hop) → is_some h.after ≡ false → begins h ≡ true
-none_begins h = elim h.after as (λ o. is_some o ≡ false → elim o as (λ _. Bool) [ None ↦ true | Some q ↦ false ] ≡ true) [
-  | None ↦ λ e. refl
-  | Some q ↦ λ e. sym e
-]
-
-pub some_goes_on : (h : Hop) → is_some h.after ≡ true → begins h ≡ false
-some_goes_on h = elim h.after as (λ o. is_some o ≡ true → elim o as (λ _. Bool) [ None ↦ true | Some q ↦ false ] ≡ false) [
-  | None ↦ λ e. sym e
-  | Some q ↦ λ e. refl
+pub begins_is : (h : Hop) (b : Bool) → b ≡ is_none h.after → b ≡ begins h
+begins_is h b = elim h.after as (λ o. b ≡ is_none o → b ≡ elim o as (λ _. Bool) [ None ↦ true | Some q ↦ false ]) [
+  | None ↦ λ e. e
+  | Some q ↦ λ e. e
 ]
 
 abbrev pub row_begins : HopRow → Bool
 row_begins r = begins r.hop
 
-module _ (rs : List HopRow) (i : ℕ) (d : HopRow) (lt : i < length rs) (old : some row_begins rs ≡ some row_begins (drop i rs)) where
-  step : some row_begins (drop i rs) ≡ (row_begins (get_or rs i d) || some row_begins (drop (i + 1) rs))
-  step = at_drop_more (some row_begins) rs i d lt
-
-  -- a first hop was met
-  pub first_met_here : is_some (get_or rs i d).hop.after ≡ false → true ≡ some row_begins rs
-  first_met_here e = sym (old ∙ step ∙ ap (λ t. t || some row_begins (drop (i + 1) rs)) (none_begins (get_or rs i d).hop e))
-
-  -- another hop was passed
-  pub hop_passed : is_some (get_or rs i d).hop.after ≡ true → some row_begins rs ≡ some row_begins (drop (i + 1) rs)
-  hop_passed e = old ∙ step ∙ ap (λ t. t || some row_begins (drop (i + 1) rs)) (some_goes_on (get_or rs i d).hop e)
-
--- no first hop is left
-pub none_first : (rs : List HopRow) (i : ℕ) → length rs ≤ i → some row_begins rs ≡ some row_begins (drop i rs) → false ≡ some row_begins rs
-none_first rs i le old = sym (old ∙ at_drop_all (some row_begins) rs i le)
+pub any_is_some : {X : Type 0} (t : X → Bool) (xs : List X) → list_any t xs ≡ some t xs
+any_is_some t [] = refl
+any_is_some t (x ∷ xs) = ap (λ b. t x || b) (any_is_some t xs)

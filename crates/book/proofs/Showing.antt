@@ -1,5 +1,5 @@
 -- What the rows of a book show, and what it tells from them.
-use Rattle.std.proofs.Common.{◌≡◌, ℕ, ◌+◌, ◌-◌, ◌^◌, ◌<◌, Bool, true, false, ◌&&◌, eqb, List, [], ◌∷◌, map, length, take, drop, Some, None, Ok, Err, Option, unwrap_or, sym, refl, ap, ◌∙◌, inl, inr, arith, length-drop, length-take}
+use Rattle.std.proofs.Common.{◌≡◌, ℕ, ◌+◌, ◌-◌, ◌^◌, ◌<◌, Bool, true, false, ◌&&◌, eqb, List, [], ◌∷◌, map, length, take, drop, Some, None, Ok, Err, Option, MatchOption, unwrap_or, sym, refl, ap, ◌∙◌, inl, inr, arith, length-drop, length-take}
 use lib.ListN.{length-map}
 use Rattle.std.specs.Option.{SomeIff}
 use Rattle.std.specs.List.{AllByRecursion}
@@ -79,10 +79,10 @@ each_record f P xs h = in_all P (map f xs) (all_map_in P f xs h)
 
 module _ (b : Book) (F : Figures) (s : Shows b F) where
   this_port : (x : PortRow) → In x (rows b.ports) → port_row (rows b.ports) x.port.number ≡ x
-  this_port x i = port_row_is (rows b.ports) b.ports_ascend x i x.port.number refl
+  this_port x i = port_row_is (rows b.ports) b.ports.ascends x i x.port.number refl
 
   this_hop : (x : HopRow) → In x (rows b.hops) → hop_row (rows b.hops) x.hop.link x.hop.port ≡ x
-  this_hop x i = hop_row_is (rows b.hops) b.hops_ascend x i x.hop.link x.hop.port refl
+  this_hop x i = hop_row_is (rows b.hops) b.hops.ascends x i x.hop.link x.hop.port refl
 
   -- at every port and hop of the book the rows show the same figures
   pub shown_agree : Agree (records b) (shown b) F
@@ -103,13 +103,18 @@ module _ (b : Book) (F : Figures) (s : Shows b F) where
 -- ## What is told
 
 -- the backlog under a number
-pub backlog_got : (xs : List PortRow) (n : ℕ) → ascending (by_key number_before port_key) xs ≡ true → (x : PortRow) → Getting port_key xs n (Some x)
+backlog_got : (xs : List PortRow) (n : ℕ) → ascending (by_key number_before port_key) xs ≡ true → (x : PortRow) → Getting port_key xs n (Some x)
     → x.backlog ≡ (port_row xs n).backlog
 backlog_got xs n up x (i, e) = ap (λ (r : PortRow). r.backlog) (sym (port_row_is xs up x i n e))
 
-pub no_backlog : (xs : List PortRow) (n : ℕ) → Getting port_key xs n None → 0 ≡ (port_row xs n).backlog
+no_backlog : (xs : List PortRow) (n : ℕ) → Getting port_key xs n None → 0 ≡ (port_row xs n).backlog
 no_backlog [] n none = refl
 no_backlog (x ∷ xs) n none = rw (ne_eqb x.port.number n (none x (inl refl))) (no_backlog xs n (λ y i. none y (inr i)))
+
+pub backlog_told : (xs : List PortRow) (n : ℕ) → ascending (by_key number_before port_key) xs ≡ true → (o : Option PortRow) → Getting port_key xs n o
+    → (b : ℕ) → MatchOption o (b ≡ 0) (λ row. b ≡ row.backlog) → b ≡ (port_row xs n).backlog
+backlog_told xs n up (Some x) got b is = is ∙ backlog_got xs n up x got
+backlog_told xs n up None got b is = is ∙ no_backlog xs n got
 
 -- a question about a link that meets neither of the first grounds
 pub link_is_known : (b : Book) (l : ℕ) → None ≡ link_ground b l → (b.standing ≡ true) × (has_link (records b) l ≡ true)
@@ -126,7 +131,7 @@ module _ (b : Book) (up : b.standing ≡ true) (p : ℕ) where
   pub port_is_told : (row : PortRow) → Getting port_key (rows b.ports) p (Some row) → Ok (row.backlog, row.depth) ≡ told_port b p
   port_is_told row got =
       let known : has_port (records b) p ≡ true = sym (has_port_told p (rows b.ports) (Some row) got) in
-      rw (up, known, port_row_is (rows b.ports) b.ports_ascend row got.0 p got.1)
+      rw (up, known, port_row_is (rows b.ports) b.ports.ascends row got.0 p got.1)
 
   pub port_is_unknown : Getting port_key (rows b.ports) p None → Err PortUnknown ≡ told_port b p
   port_is_unknown got =
@@ -155,8 +160,8 @@ module _ (b : Book) (up : b.standing ≡ true) (p : ℕ) where
           let there : has_hop (records b) l p ≡ true = sym (has_hop_told l p (rows b.hops) (Some row) got) in
           rw (up, link, known_port, there) (
           ap (λ d. Ok (row.earliest, row.latest, d)) e
-          ∙ ap (λ (q : PortRow). Ok (row.earliest, row.latest, capped (row.latest + q.backlog))) (sym (port_row_is (rows b.ports) b.ports_ascend at port.0 p port.1))
-          ∙ ap (λ (r : HopRow). Ok (r.earliest, r.latest, capped (r.latest + (shown b).backlog p))) (sym (hop_row_is (rows b.hops) b.hops_ascend row got.0 l p got.1))
+          ∙ ap (λ (q : PortRow). Ok (row.earliest, row.latest, capped (row.latest + q.backlog))) (sym (port_row_is (rows b.ports) b.ports.ascends at port.0 p port.1))
+          ∙ ap (λ (r : HopRow). Ok (r.earliest, r.latest, capped (r.latest + (shown b).backlog p))) (sym (hop_row_is (rows b.hops) b.hops.ascends row got.0 l p got.1))
           )
 
 -- ## The delay of a link
@@ -182,7 +187,7 @@ module _ (b : Book) (up : b.standing ≡ true) (l : ℕ) (link : has_link (recor
   run = take (to - from) (drop from (rows b.hops))
 
   hops_are : hops_of (records b) l ≡ map (λ (r : HopRow). r.hop) run
-  hops_are = hops_in_run (rows b.hops) l from to b.hops_ascend st re
+  hops_are = hops_in_run (rows b.hops) l from to b.hops.ascends st re
 
   how_many : length (hops_of (records b) l) ≡ to - from
   how_many =
@@ -193,7 +198,7 @@ module _ (b : Book) (up : b.standing ≡ true) (l : ℕ) (link : has_link (recor
   delay_is_shown : delay (records b) (shown b) l ≡ largest (row_departure (rows b.ports)) run
   delay_is_shown =
       let here : (x : HopRow) → In x (rows b.hops) → departure (shown b) x.hop ≡ row_departure (rows b.ports) x
-      = λ x i. ap (λ (r : HopRow). r.latest + (port_row (rows b.ports) x.hop.port).backlog) (hop_row_is (rows b.hops) b.hops_ascend x i x.hop.link x.hop.port refl) in
+      = λ x i. ap (λ (r : HopRow). r.latest + (port_row (rows b.ports) x.hop.port).backlog) (hop_row_is (rows b.hops) b.hops.ascends x i x.hop.link x.hop.port refl) in
       ap (largest (departure (shown b))) hops_are
       ∙ largest_over (departure (shown b)) (λ (r : HopRow). r.hop) (row_departure (rows b.ports)) run
       (All-take _ (to - from) (drop from (rows b.hops)) (All-drop _ from (rows b.hops) (all_in _ (rows b.hops) here)))

@@ -1,16 +1,21 @@
 // Opening, entering, removing, clearing, and the records by their places.
-ghost use Rattle.std.specs.Prelude.{◌≡◌, true, false, [], length, None, Ok, MatchOption};
+ghost use Rattle.std.specs.Prelude.{◌≡◌, ◌≤◌, true, false, [], length, None, Ok, MatchOption};
 ghost use Rattle.definitions.specs.Entries.{Places, port_entry, link_entry, hop_entry, entry_ground, entered, removal_ground, removed, no_records, rate_known, gap_known, lengths_kept, has_link, has_port, has_hop, has_first_hop};
 ghost use Rattle.definitions.specs.Network.{find_port, suits};
 ghost use Rattle.std.specs.List.{slice_get};
 ghost use Rattle.definitions.specs.Calls.{enter, remove_link, clear, count_ports, count_links, count_hops, port_at, link_at, hop_at, done, count, port_is, link_is, hop_is};
+ghost use Rattle.register.specs.Tables.{rows, Starts};
+ghost use Rattle.working_out.specs.Keys.{place_before, hop_key};
+ghost use Rattle.working_out.specs.Works.{refused_by};
 ghost use Rattle.book.specs.Books.{records, places, unfit, Doing, Made, answer_of, Adds};
+ghost use Rattle.book.specs.LinkRuns.{RunEnd};
 
 use crate::books::Book;
 use crate::link_runs::{has_first, run_end};
 use definitions::network::{Hop, Port, PortKind, VirtualLink};
 use definitions::refusals::Refusal;
-use register::tables::{Insertion, Table};
+use register::tables::{NotInserted, Table};
+use std::ops::Range;
 use working_out::rows::{HopRow, LinkRow, PortRow};
 
 // What a book holds at most, however many places its tables have.
@@ -54,12 +59,13 @@ impl<'a> Book<'a> {
             return Err(Refusal::RateUnknown);
         }
         match self.ports.insert(PortRow::new(port), MOST_PORTS) {
-            Insertion::Added => {}
-            Insertion::Present => return Err(Refusal::PortPresent),
-            Insertion::Full => return Err(Refusal::PortTableFull),
+            Ok(()) => {
+                self.standing = false;
+                Ok(())
+            }
+            Err(NotInserted::Present) => Err(Refusal::PortPresent),
+            Err(NotInserted::Full) => Err(Refusal::PortTableFull),
         }
-        self.standing = false;
-        Ok(())
     }
 
     // Enters a virtual link.
@@ -80,12 +86,13 @@ impl<'a> Book<'a> {
             return Err(Refusal::OutOfRange);
         }
         match self.links.insert(LinkRow { link }, MOST_LINKS) {
-            Insertion::Added => {}
-            Insertion::Present => return Err(Refusal::LinkPresent),
-            Insertion::Full => return Err(Refusal::LinkTableFull),
+            Ok(()) => {
+                self.standing = false;
+                Ok(())
+            }
+            Err(NotInserted::Present) => Err(Refusal::LinkPresent),
+            Err(NotInserted::Full) => Err(Refusal::LinkTableFull),
         }
-        self.standing = false;
-        Ok(())
     }
 
     // Enters a hop.
@@ -99,38 +106,35 @@ impl<'a> Book<'a> {
     fn add_hop(&mut self, hop: Hop) -> Result<(), Refusal>
         ensures { Doing (entry_ground (places self.old) (records self.old) (hop_entry hop)) (entered (records self.old) (hop_entry hop)) self.old self.new result }
     {
-        if let Some(refusal) = self.hop_refusal(hop) {
-            return Err(refusal);
-        }
+        self.fits(hop)?;
         match self.hops.insert(HopRow::new(hop), MOST_HOPS) {
-            Insertion::Added => {}
-            Insertion::Present => return Err(Refusal::HopPresent),
-            Insertion::Full => return Err(Refusal::HopTableFull),
+            Ok(()) => {
+                self.standing = false;
+                Ok(())
+            }
+            Err(NotInserted::Present) => Err(Refusal::HopPresent),
+            Err(NotInserted::Full) => Err(Refusal::HopTableFull),
         }
-        self.standing = false;
-        Ok(())
     }
 
     // The first ground that a hop meets, of all but the last, which is that the table is full.
-    fn hop_refusal(&self, hop: Hop) -> Option<Refusal>
-        ensures { result ≡ unfit (records self.now) hop }
+    fn fits(&self, hop: Hop) -> Result<(), Refusal>
+        ensures { result ≡ refused_by (unfit (records self.now) hop) }
     {
         if !self.has_link(hop.link) {
-            return Some(Refusal::LinkUnknown);
+            return Err(Refusal::LinkUnknown);
         }
-        let Some(port) = self.find_port(hop.port) else {
-            return Some(Refusal::PortUnknown);
-        };
+        let port = self.find_port(hop.port).ok_or(Refusal::PortUnknown)?;
         if self.has_hop(hop.link, hop.port) {
-            return Some(Refusal::HopPresent);
+            return Err(Refusal::HopPresent);
         }
         if !suited(port.kind, hop.after) {
-            return Some(Refusal::KindUnsuited);
+            return Err(Refusal::KindUnsuited);
         }
         match hop.after {
-            None if self.has_first_hop(hop.link) => Some(Refusal::SecondFirstHop),
-            Some(before) if !self.has_hop(hop.link, before) => Some(Refusal::NoHopBefore),
-            _ => None,
+            None if self.has_first_hop(hop.link) => Err(Refusal::SecondFirstHop),
+            Some(before) if !self.has_hop(hop.link, before) => Err(Refusal::NoHopBefore),
+            _ => Ok(()),
         }
     }
 
@@ -143,10 +147,7 @@ impl<'a> Book<'a> {
     fn find_port(&self, number: u8) -> Option<Port>
         ensures { MatchOption result (has_port (records self.now) number ≡ false) (λ p. (has_port (records self.now) number ≡ true) × (find_port (records self.now).ports number ≡ p)) }
     {
-        match self.ports.get(number) {
-            Some(row) => Some(row.port),
-            None => None,
-        }
+        self.ports.get(number).map(|row| row.port)
     }
 
     fn has_hop(&self, link: u16, port: u8) -> bool
@@ -158,10 +159,17 @@ impl<'a> Book<'a> {
     fn has_first_hop(&self, link: u16) -> bool
         ensures { result ≡ has_first_hop (records self.now) link }
     {
-        let rows = self.hops.all();
+        has_first(&self.hops.all()[self.run_of(link)])
+    }
+
+    // Where the hops of a link stand, one after another.
+    pub(crate) fn run_of(&self, link: u16) -> Range<usize>
+        ensures starts { Starts place_before hop_key (rows self.now.hops) (link, 0) result.start }
+        ensures ends { RunEnd (rows self.now.hops) link result.start result.end }
+    {
         let from = self.hops.start_of((link, 0));
-        let to = run_end(rows, link, from);
-        has_first(&rows[from..to])
+        let to = run_end(self.hops.all(), link, from);
+        from..to
     }
 
     // Removes a link with all its hops.
@@ -178,10 +186,9 @@ impl<'a> Book<'a> {
         let Ok(place) = self.links.find(link) else {
             return Err(Refusal::LinkUnknown);
         };
-        let from = self.hops.start_of((link, 0));
-        let to = run_end(self.hops.all(), link, from);
+        let run = self.run_of(link);
         let _ = self.links.remove_one(place);
-        let _ = self.hops.remove_run(from, to);
+        let _ = self.hops.remove_run(run.start, run.end);
         self.standing = false;
         Ok(())
     }
@@ -226,10 +233,7 @@ impl<'a> Book<'a> {
         ensures outcome { result ≡ slice_get (records self.now).ports place }
         ensures run { Adds (port_at place) (port_is result) self.now self.now }
     {
-        match self.ports.at(place) {
-            Some(row) => Some(row.port),
-            None => None,
-        }
+        self.ports.at(place).map(|row| row.port)
     }
 
     // The link at a place, counted from 0 in ascending order; none past the last.
@@ -237,10 +241,7 @@ impl<'a> Book<'a> {
         ensures outcome { result ≡ slice_get (records self.now).links place }
         ensures run { Adds (link_at place) (link_is result) self.now self.now }
     {
-        match self.links.at(place) {
-            Some(row) => Some(row.link),
-            None => None,
-        }
+        self.links.at(place).map(|row| row.link)
     }
 
     // The hop at a place, counted from 0 in ascending order; none past the last.
@@ -248,10 +249,7 @@ impl<'a> Book<'a> {
         ensures outcome { result ≡ slice_get (records self.now).hops place }
         ensures run { Adds (hop_at place) (hop_is result) self.now self.now }
     {
-        match self.hops.at(place) {
-            Some(row) => Some(row.hop),
-            None => None,
-        }
+        self.hops.at(place).map(|row| row.hop)
     }
 }
 
@@ -259,11 +257,10 @@ impl<'a> Book<'a> {
 fn suited(kind: PortKind, after: Option<u8>) -> bool
     ensures { result ≡ suits kind after }
 {
-    match (kind, after) {
-        (PortKind::End, None) => true,
-        (PortKind::Switch, Some(_)) => true,
-        _ => false,
-    }
+    matches!(
+        (kind, after),
+        (PortKind::End, None) | (PortKind::Switch, Some(_))
+    )
 }
 
 fn has_known_rate(port: &Port) -> bool
@@ -275,10 +272,7 @@ fn has_known_rate(port: &Port) -> bool
 fn has_known_gap(link: &VirtualLink) -> bool
     ensures { result ≡ gap_known link.now }
 {
-    match link.gap {
-        1 | 2 | 4 | 8 | 16 | 32 | 64 | 128 => true,
-        _ => false,
-    }
+    matches!(link.gap, 1 | 2 | 4 | 8 | 16 | 32 | 64 | 128)
 }
 
 fn keeps_lengths(link: &VirtualLink) -> bool

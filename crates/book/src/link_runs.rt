@@ -12,22 +12,15 @@ pub(crate) fn run_end(rows: &[HopRow], link: u16, from: usize) -> usize
     requires { from ≤ length rows.now }
     ensures { RunEnd rows.now link from result }
 {
-    for place in from..rows.len() {
-        if rows[place].hop.link != link {
-            return place;
-        }
+    match rows[from..].iter().position(|row| row.hop.link != link) {
+        Some(count) => from + count,
+        None => rows.len(),
     }
-    rows.len()
 }
 
 // Whether one of the hops is a first hop.
 pub(crate) fn has_first(rows: &[HopRow]) -> bool
     ensures { result ≡ some (λ (x : Row). begins x.hop) rows.now }
 {
-    for row in rows {
-        if row.hop.after.is_none() {
-            return true;
-        }
-    }
-    false
+    rows.iter().any(|row| row.hop.after.is_none())
 }

@@ -1,13 +1,12 @@
 // What a book tells of its figures while they stand.
 ghost use Rattle.std.specs.Prelude.{◌≡◌};
 ghost use Rattle.definitions.specs.Calls.{port_figures, hop_figures, delay_of};
-ghost use Rattle.register.specs.Tables.{rows, Ordered};
-ghost use Rattle.working_out.specs.Keys.{number_before, port_key};
+ghost use Rattle.register.specs.Tables.{rows};
+ghost use Rattle.working_out.specs.Works.{refused_by};
 ghost use Rattle.book.specs.Books.{Adds};
 ghost use Rattle.book.specs.Questions.{port_row, row_departure, link_ground, told_port, told_hop, told_delay, port_answer, hop_answer, delay_answer, PortPromised, HopPromised, DelayPromised};
 
 use crate::books::Book;
-use crate::link_runs::run_end;
 use definitions::refusals::Refusal;
 use folds::{Measure, largest};
 use register::tables::Table;
@@ -17,7 +16,6 @@ use working_out::rows::{HopRow, PortRow};
 #[derive(Drop)]
 struct Departure<'b, 'a> {
     ports: &'b Table<'a, PortRow>,
-    ghost ports_ascend: { Ordered number_before port_key ports.now },
 }
 
 impl<'b, 'a> Measure for Departure<'b, 'a> {
@@ -32,12 +30,9 @@ impl<'b, 'a> Measure for Departure<'b, 'a> {
 
 // The backlog of a port, 0 where there is no such port.
 fn backlog_at(ports: &Table<PortRow>, number: u8) -> u64
-    ensures { Ordered number_before port_key ports.now → result ≡ (port_row (rows ports.now) number).backlog }
+    ensures { result ≡ (port_row (rows ports.now) number).backlog }
 {
-    match ports.get(number) {
-        Some(row) => row.backlog,
-        None => 0,
-    }
+    ports.get(number).map_or(0, |row| row.backlog)
 }
 
 impl<'a> Book<'a> {
@@ -56,10 +51,8 @@ impl<'a> Book<'a> {
         if !self.standing {
             return Err(Refusal::NoFigures);
         }
-        match self.ports.get(port) {
-            Some(row) => Ok((row.backlog, row.depth)),
-            None => Err(Refusal::PortUnknown),
-        }
+        let row = self.ports.get(port).ok_or(Refusal::PortUnknown)?;
+        Ok((row.backlog, row.depth))
     }
 
     // The earliest and the latest arrival of a frame at a hop and its latest departure, in ns after its release.
@@ -74,20 +67,14 @@ impl<'a> Book<'a> {
     fn tell_hop(&self, link: u16, port: u8) -> Result<(u64, u64, u64), Refusal>
         ensures { result ≡ told_hop self.now link port }
     {
-        if let Some(refusal) = self.link_refusal(link) {
-            return Err(refusal);
-        }
-        let Some(at) = self.ports.get(port) else {
-            return Err(Refusal::PortUnknown);
-        };
-        match self.hops.get((link, port)) {
-            Some(row) => Ok((
-                row.earliest,
-                row.latest,
-                row.latest.saturating_add(at.backlog),
-            )),
-            None => Err(Refusal::NoHopThere),
-        }
+        self.may_ask_of(link)?;
+        let at = self.ports.get(port).ok_or(Refusal::PortUnknown)?;
+        let row = self.hops.get((link, port)).ok_or(Refusal::NoHopThere)?;
+        Ok((
+            row.earliest,
+            row.latest,
+            row.latest.saturating_add(at.backlog),
+        ))
     }
 
     // The largest departure of a link's hops, in ns after the release of a frame.
@@ -102,29 +89,23 @@ impl<'a> Book<'a> {
     fn tell_delay(&self, link: u16) -> Result<u64, Refusal>
         ensures { result ≡ told_delay self.now link }
     {
-        if let Some(refusal) = self.link_refusal(link) {
-            return Err(refusal);
-        }
-        let rows = self.hops.all();
-        let from = self.hops.start_of((link, 0));
-        let to = run_end(rows, link, from);
-        if from == to {
+        self.may_ask_of(link)?;
+        let hops = &self.hops.all()[self.run_of(link)];
+        if hops.is_empty() {
             return Err(Refusal::NoHops);
         }
         let departure = Departure { ports: &self.ports };
-        Ok(largest(&departure, &rows[from..to]).unwrap_or(u64::MAX))
+        Ok(largest(&departure, hops).unwrap_or(u64::MAX))
     }
 
     // The first ground that a question about a link meets: no figures stand, or the link is unknown.
-    fn link_refusal(&self, link: u16) -> Option<Refusal>
-        ensures { result ≡ link_ground self.now link }
+    fn may_ask_of(&self, link: u16) -> Result<(), Refusal>
+        ensures { result ≡ refused_by (link_ground self.now link) }
     {
-        if !self.standing {
-            return Some(Refusal::NoFigures);
+        match (self.standing, self.has_link(link)) {
+            (false, _) => Err(Refusal::NoFigures),
+            (true, false) => Err(Refusal::LinkUnknown),
+            (true, true) => Ok(()),
         }
-        if !self.has_link(link) {
-            return Some(Refusal::LinkUnknown);
-        }
-        None
     }
 }

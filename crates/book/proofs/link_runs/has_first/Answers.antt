@@ -1,11 +1,10 @@
-use Rattle.book.proofs.Runs.{first_met_here, hop_passed, none_first}
+use Rattle.std.proofs.Common.{◌∙◌, rules, tests}
+use Rattle.std.proofs.lemmas.Iterator.{YieldsList-from_slice}
+use Rattle.std.proofs.lemmas.Iterator.Search.{any_from_yields_List}
+use Rattle.book.proofs.Runs.{row_begins, begins_is, any_is_some}
 use Rattle.book.proofs.link_runs.has_first.Goals as goal
 
-pub returns-then-is_none : goal.returns-then-is_none
-returns-then-is_none c = first_met_here c.args.rows.now c.loop-row.row-index _ c.loop-row-test.true c.loop-row.invariant c.if-is_none.ensures
-
-pub loop-row-preserved : goal.loop-row-preserved
-loop-row-preserved c = hop_passed c.args.rows.now c.loop-row.row-index _ c.loop-row-test.true c.loop-row.invariant c.if-is_none.ensures
-
 pub returns : goal.returns
-returns c = none_first c.args.rows.now c.loop-row.row-index c.loop-row-test.false c.loop-row.invariant
+returns c =
+    any_from_yields_List row_begins c.any.new.self _ c.any.result c.any.ensures.ran (YieldsList-from_slice c.args.rows.now cc) (λ x b q k. (search (rules, tests), begins_is x.now.hop b (search (rules, tests))))
+    ∙ any_is_some row_begins c.args.rows.now

@@ -1,9 +1,7 @@
+use Rattle.std.proofs.Common.{rules}
 use Rattle.register.specs.Tables.{rows}
-use Rattle.book.proofs.Showing.{backlog_got, no_backlog}
+use Rattle.book.proofs.Showing.{backlog_told}
 use Rattle.book.proofs.questions.backlog_at.Goals as goal
 
-pub returns-in-Some : goal.returns-in-Some
-returns-in-Some c up = backlog_got (rows c.args.ports.now) c.args.number up c.in-Some.row (c.in-Some.ensures up)
-
-pub returns-in-None : goal.returns-in-None
-returns-in-None c up = no_backlog (rows c.args.ports.now) c.args.number (c.in-None.ensures up)
+pub returns : goal.returns
+returns c = backlog_told (rows c.args.ports.now) c.args.number c.args.ports.now.ascends c.get.result c.get.ensures c.map_or.result (search rules)

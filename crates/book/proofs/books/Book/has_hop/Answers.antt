@@ -6,4 +6,4 @@ use Rattle.book.proofs.books.Book.has_hop.Goals as goal
 pub returns : goal.returns
 returns c =
     c.is_some.ensures
-    ∙ has_hop_told c.args.link c.args.port (rows c.args.self.now.hops) c.get.result (c.get.ensures c.args.self.now.hops_ascend)
+    ∙ has_hop_told c.args.link c.args.port (rows c.args.self.now.hops) c.get.result c.get.ensures

@@ -1,24 +1,16 @@
-use Rattle.std.proofs.Common.{Some, None, refl, ap, ◌∙◌}
+use Rattle.std.proofs.Common.{refl, ap, ◌∙◌, rules}
 use Rattle.std.specs.List.{slice_get}
 use Rattle.definitions.specs.Network.{Records}
 use Rattle.definitions.specs.Calls.{port_at, port_is}
 use Rattle.register.specs.Tables.{rows}
 use Rattle.working_out.specs.declared.rows.PortRow.{PortRow}
-use Rattle.book.proofs.Adding.{asking_adds, nth_map_some, nth_map_none}
+use Rattle.book.proofs.Adding.{asking_adds, nth_mapped}
 use Rattle.book.proofs.books.Book.port_at.Goals as goal
 
-pub returns-in-Some : goal.returns-in-Some
-returns-in-Some c =
-    let is = nth_map_some (λ (r : PortRow). r.port) (rows c.args.self.now.ports) c.args.place c.in-Some.row c.in-Some.ensures in
+pub returns : goal.returns
+returns c =
+    let is = nth_mapped (λ (r : PortRow). r.port) (rows c.args.self.now.ports) c.args.place c.at.result c.at.ensures c.map.result (search rules) in
     record {
       outcome = is;
-      run = asking_adds (port_at c.args.place) tt (port_is (Some c.in-Some.row.port)) c.args.self.now (λ s held. (ap port_is (is ∙ ap (λ (x : Records). slice_get x.ports c.args.place) held), refl));
-    }
-
-pub returns-in-None : goal.returns-in-None
-returns-in-None c =
-    let is = nth_map_none (λ (r : PortRow). r.port) (rows c.args.self.now.ports) c.args.place c.in-None.ensures in
-    record {
-      outcome = is;
-      run = asking_adds (port_at c.args.place) tt (port_is None) c.args.self.now (λ s held. (ap port_is (is ∙ ap (λ (x : Records). slice_get x.ports c.args.place) held), refl));
+      run = asking_adds (port_at c.args.place) tt (port_is c.map.result) c.args.self.now (λ s held. (ap port_is (is ∙ ap (λ (x : Records). slice_get x.ports c.args.place) held), refl));
     }

@@ -1,26 +1,33 @@
-use Rattle.book.specs.Questions.{hop_question}
-use Rattle.book.proofs.Showing.{refused_first, link_is_known, hop_without_port, no_hop_is_there, hop_is_told}
+use Rattle.std.proofs.Common.{Err, ap, ◌∙◌, subst}
+use Rattle.std.proofs.lemmas.Result.{err_from_is_err_and}
+use Rattle.register.specs.Tables.{rows, Getting}
+use Rattle.working_out.specs.Keys.{port_key, hop_key}
+use Rattle.book.proofs.Hops.{missing, fit_of}
+use Rattle.book.proofs.Showing.{link_is_known, hop_without_port, no_hop_is_there, hop_is_told}
 use Rattle.book.proofs.books.Book.tell_hop.Goals as goal
 
-pub returns-in-Some : goal.returns-in-Some
-returns-in-Some c = refused_first 2 (hop_question c.args.self.now c.args.link c.args.port) c.in-Some.refusal _ c.in-Some.ensures
+pub returns-in_err-at : goal.returns-in_err-at
+returns-in_err-at c =
+    let (up, link) = link_is_known c.args.self.now c.args.link (fit_of _ c.in_ok-may_ask_of.ensures) in
+    let (e, is, same) = err_from_is_err_and c.from_residual-in_err-at.result c.from_residual-in_err-at.ensures.1 in
+    let none = c.in_err-at.ensures.ok_part in
+    is ∙ ap Err (same ∙ missing c.get.result _ c.in_err-at.field-0.0 none c.in_err-at.ensures.value)
+    ∙ hop_without_port c.args.self.now up c.args.port c.args.link link (subst (Getting port_key (rows c.args.self.now.ports) c.args.port) none c.get.ensures)
 
-pub returns-in_default-get : goal.returns-in_default-get
-returns-in_default-get c =
-    let (up, link) = link_is_known c.args.self.now c.args.link c.in_default.ensures in
-    hop_without_port c.args.self.now up c.args.port c.args.link link (c.in_default-get.ensures c.args.self.now.ports_ascend)
+pub returns-in_err-row : goal.returns-in_err-row
+returns-in_err-row c =
+    let (up, link) = link_is_known c.args.self.now c.args.link (fit_of _ c.in_ok-may_ask_of.ensures) in
+    let (e, is, same) = err_from_is_err_and c.from_residual-in_err-row.result c.from_residual-in_err-row.ensures.1 in
+    let none = c.in_err-row.ensures.ok_part in
+    is ∙ ap Err (same ∙ missing c.get-2.result _ c.in_err-row.field-0.0 none c.in_err-row.ensures.value)
+    ∙ no_hop_is_there c.args.self.now up c.args.port c.args.link link
+    c.in_ok-at.at (subst (Getting port_key (rows c.args.self.now.ports) c.args.port) c.in_ok-at.ensures.ok_part c.get.ensures)
+    (subst (Getting hop_key (rows c.args.self.now.hops) (c.args.link, c.args.port)) none c.get-2.ensures)
 
-pub returns-in-Some-get-2 : goal.returns-in-Some-get-2
-returns-in-Some-get-2 c =
-    let (up, link) = link_is_known c.args.self.now c.args.link c.in_default.ensures in
+pub returns : goal.returns
+returns c =
+    let (up, link) = link_is_known c.args.self.now c.args.link (fit_of _ c.in_ok-may_ask_of.ensures) in
     hop_is_told c.args.self.now up c.args.port c.args.link link
-    c.in-Some-get.at (c.in-Some-get.ensures c.args.self.now.ports_ascend)
-    c.in-Some-get-2.row (c.in-Some-get-2.ensures c.args.self.now.hops_ascend)
+    c.in_ok-at.at (subst (Getting port_key (rows c.args.self.now.ports) c.args.port) c.in_ok-at.ensures.ok_part c.get.ensures)
+    c.in_ok-row.row (subst (Getting hop_key (rows c.args.self.now.hops) (c.args.link, c.args.port)) c.in_ok-row.ensures.ok_part c.get-2.ensures)
     c.saturating_add.result c.saturating_add.ensures
-
-pub returns-in-None : goal.returns-in-None
-returns-in-None c =
-    let (up, link) = link_is_known c.args.self.now c.args.link c.in_default.ensures in
-    no_hop_is_there c.args.self.now up c.args.port c.args.link link
-    c.in-Some-get.at (c.in-Some-get.ensures c.args.self.now.ports_ascend)
-    (c.in-None.ensures c.args.self.now.hops_ascend)

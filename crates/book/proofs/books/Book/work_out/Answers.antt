@@ -8,7 +8,7 @@ pub returns : goal.returns
 returns g c =
     let b = c.args.self.now in
     let did : WorksBook (g.M.Method.worth c.args.method.now) (length c.args.loads.now) b _ c.work_out-worked.result = record {
-      tables = same_places _ _ _ _ _ _ c.work_out-worked.ensures.ports_kept.same_room refl c.work_out-worked.ensures.hops_kept.same_room;
+      tables = same_places _ _ _ _ _ _ c.work_out-worked.ensures.ports_room refl c.work_out-worked.ensures.hops_room;
       links = refl;
       stands = c.is_ok-self.ensures.value;
       works = c.work_out-worked.ensures.works;

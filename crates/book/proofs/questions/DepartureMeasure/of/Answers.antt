@@ -5,5 +5,5 @@ use Rattle.book.proofs.questions.DepartureMeasure.of.Goals as goal
 
 pub returns : goal.returns
 returns c =
-    subst (λ n. Told n c.checked_add.result) (ap (λ n. c.args.row.now.latest + n) (c.backlog_at.ensures c.args.self.now.ports_ascend))
+    subst (λ n. Told n c.checked_add.result) (ap (λ n. c.args.row.now.latest + n) c.backlog_at.ensures)
     (checked_told _ c.checked_add.result c.checked_add.ensures)
