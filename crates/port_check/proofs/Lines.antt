@@ -1,8 +1,9 @@
 -- Lines of loads, read one after another.
-use Rattle.std.proofs.Common.{◌≡◌, ℕ, ◌+◌, ◌≤◌, true, false, cond, eqb, List, [], ◌∷◌, ◌++◌, map, length, Some, None, Ok, Err, decimal, Option, Result, MatchResult, sym, refl, ap, ◌∙◌, subst, inl, inr, arith}
+use Rattle.std.proofs.Common.{◌≡◌, ℕ, ◌+◌, ◌≤◌, List, [], ◌∷◌, ◌++◌, map, length, Some, None, Ok, Err, decimal, Option, Result, MatchResult, sym, refl, ap, ◌∙◌, subst, inl, arith}
+use Rattle.std.proofs.lemmas.Bool.Decides.{nat_tests}
 use Rattle.std.specs.Option.{ok_or}
 use Rattle.std.specs.Result.{IsErrAnd}
-use Rattle.std.proofs.lemmas.List.{append_assoc, append-nil}
+use Rattle.std.proofs.lemmas.List.{append-nil}
 use Rattle.definitions.specs.declared.loads.Load.{Load}
 use Rattle.definitions.specs.declared.refusals.Refusal.{Refusal}
 use Rattle.definitions.specs.declared.refusals.Refusal.TheVariants.{FieldUnreadable}
@@ -39,10 +40,7 @@ three_numbers n fs f g h c t j s a b d (Err e) m = no_load record { occupancy = 
 -- a text has no more lines than bytes
 pub lines_most : (bs : List ℕ) → length (lines bs) ≤ length bs
 lines_most [] = omega arith
-lines_most (b ∷ bs) = elim (eqb b 10) as (λ t. length (cond t ([] ∷ lines bs) (onto b (lines bs))) ≤ length (b ∷ bs)) [
-  | true ↦ omega (arith, lines_most bs)
-  | false ↦ omega (arith, onto_most b (lines bs), lines_most bs)
-]
+lines_most (b ∷ bs) = let le = lines_most bs in let more = onto_most b (lines bs) in grind (arith, nat_tests)
   where
     onto_most : (b : ℕ) (ls : List (List ℕ)) → length (onto b ls) ≤ length ls + 1
     onto_most b [] = omega arith
@@ -53,21 +51,6 @@ pub record ReadOn (all : List (List ℕ)) (n : ℕ) (ls : List (List ℕ)) (xs :
   pub loads : (ys : List Load) → AllRead n ls (Ok ys) → AllRead 1 all (Ok (xs ++ ys))
   pub fault : (f : Fault) → AllRead n ls (Err f) → AllRead 1 all (Err f)
 
-pub read_on_start : (all : List (List ℕ)) → ReadOn all 1 all []
-read_on_start all = record { loads = λ ys h. h; fault = λ f h. h }
-
-module _ (all : List (List ℕ)) (n : ℕ) (l : List ℕ) (ls : List (List ℕ)) (xs : List Load) (old : ReadOn all n (l ∷ ls) xs) where
-  -- one load more
-  pub read_on_more : (x : Load) → Reading n (fields l) (Ok x) → ReadOn all (n + 1) ls (xs ++ (x ∷ []))
-  read_on_more x r = record {
-    loads = λ zs h. subst (λ as'. AllRead 1 all (Ok as')) (sym (append_assoc xs (x ∷ []) zs)) (old.loads (x ∷ zs) (r, h));
-    fault = λ f h. old.fault f (inr (x, r, h));
-  }
-
-  -- a line that is no load
-  read_on_fault : (e : Refusal) → Reading n (fields l) (Err e) → AllRead 1 all (Err record { line = n; refusal = e })
-  read_on_fault e r = old.fault record { line = n; refusal = e } (inl (refl, r))
-
 -- the fault that `map_err` makes of the refusal of a line
 pub first_fault : {Called : Refusal → Type 0} (all : List (List ℕ)) (start n : ℕ) (left : List (List ℕ)) (l : List ℕ) (ls : List (List ℕ)) (xs : List Load)
     → ReadOn all start left xs → n ≡ start → left ≡ l ∷ ls → (r : Result Load Refusal) (f : Fault)
@@ -76,7 +59,7 @@ pub first_fault : {Called : Refusal → Type 0} (all : List (List ℕ)) (start n
 first_fault all start n left l ls xs old en el (Ok x) f reading other call = cc
 first_fault all start n left l ls xs old en el (Err e) f reading called call =
     let here : ReadOn all n (l ∷ ls) xs = rw (en, ← el) old in
-    rw (call e called) (read_on_fault all n l ls xs here e reading)
+    rw (call e called) (here.fault record { line = n; refusal = e } (inl (refl, reading)))
 
 -- all lines are read
 pub read_on_end : (all : List (List ℕ)) (n : ℕ) (ls : List (List ℕ)) (xs : List Load) → ReadOn all n ls xs → ls ≡ [] → AllRead 1 all (Ok xs)

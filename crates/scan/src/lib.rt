@@ -31,7 +31,7 @@ fn cut(bytes: &[u8], byte: u8) -> (&[u8], Option<&[u8]>)
 
 impl<'a> Lines<'a> {
     pub fn of(text: &'a [u8]) -> Lines<'a>
-        ensures { lines result.rest.now ≡ lines text.now }
+        ensures { lines_left result ≡ lines text.now }
     {
         Lines { rest: text }
     }
