@@ -1,88 +1,65 @@
 -- Lines of loads, read one after another.
-use Rattle.std.proofs.Common.{◌≡◌, ℕ, ◌+◌, ◌<◌, ◌≤◌, true, false, cond, eqb, List, [], ◌∷◌, ◌++◌, length, Some, None, Ok, Err, decimal, Result, sym, refl, ap, ◌∙◌, subst, inl, inr, arith}
-use Rattle.std.proofs.lemmas.List.{append_assoc, append-nil}
+use Rattle.std.proofs.Common.{◌≡◌, ℕ, ◌+◌, ◌≤◌, List, [], ◌∷◌, ◌++◌, map, length, Some, None, Ok, Err, decimal, Option, Result, MatchResult, sym, refl, ap, ◌∙◌, subst, inl, arith}
+use Rattle.std.proofs.lemmas.Bool.Decides.{nat_tests}
+use Rattle.std.specs.Option.{ok_or}
+use Rattle.std.specs.Result.{IsErrAnd}
+use Rattle.std.proofs.lemmas.List.{append-nil}
 use Rattle.definitions.specs.declared.loads.Load.{Load}
 use Rattle.definitions.specs.declared.refusals.Refusal.{Refusal}
-use Rattle.definitions.specs.declared.refusals.Refusal.TheVariants.{FieldCountWrong, FieldUnreadable}
+use Rattle.definitions.specs.declared.refusals.Refusal.TheVariants.{FieldUnreadable}
 use Rattle.definitions.specs.Loads.{IsLoad, Making}
 use Rattle.definitions.specs.Text.{lines, onto, fields, number_in}
 use Rattle.theory.proofs.Numbers.{numbers_read_as_written}
 use Rattle.theory.proofs.Variants.{none_some}
 use Rattle.port_check.specs.declared.faults.Fault.{Fault}
-use Rattle.port_check.specs.Input.{row_of, Unwritten, Refused, count_wrong, unwritten, no_load, Reading, AllRead}
+use Rattle.port_check.specs.Input.{Unwritten, unwritten, no_load, Reading, AllRead}
 
 -- ## Fields
 
--- a field that was read writes the number
-pub written_field : (f : List ℕ) (n : ℕ) → Some n ≡ number_in 18446744073709551615 f → f ≡ decimal n
-written_field f n e = ((numbers_read_as_written 18446744073709551615 (omega arith) f n).0 (sym e)).0
-
--- one that was not writes none
-pub unwritten_field : (f : List ℕ) → None ≡ number_in 18446744073709551615 f → Unwritten f
-unwritten_field f e n lt w = none_some n (e ∙ (numbers_read_as_written 18446744073709551615 (omega arith) f n).1 (w, omega arith))
+-- what a field reads as: the number that it writes, or that it writes none
+pub field_told : (f : List ℕ) (e : Refusal) (r : Option ℕ) → r ≡ number_in 18446744073709551615 f → MatchResult (ok_or r e) (λ n. f ≡ decimal n) (λ d. (d ≡ e) × Unwritten f)
+field_told f e (Some n) read = ((numbers_read_as_written 18446744073709551615 (omega arith) f n).0 (sym read)).0
+field_told f e None read = (refl, λ n lt w. none_some n (read ∙ (numbers_read_as_written 18446744073709551615 (omega arith) f n).1 (w, omega arith)))
 
 -- ## One line
 
-module _ (n : ℕ) (fs : List (List ℕ)) where
-  pub too_few : length fs < 3 → Refused n fs (FieldCountWrong n)
-  too_few lt = count_wrong (λ e. omega arith) refl
+-- what a line is told whose field f writes no number, where those in front of it do
+pub refused_field : (n : ℕ) (fs : List (List ℕ)) (front : List ℕ) (f : List ℕ) (back : List (List ℕ)) (e : Refusal) (r : Result Load Refusal)
+    → length fs ≡ 3 → fs ≡ map decimal front ++ (f ∷ back) → (e ≡ FieldUnreadable n (length front + 1)) × Unwritten f → IsErrAnd r (λ d. d ≡ e) → Reading n fs r
+refused_field n fs front f back e (Ok l) three parts told same = absurd same
+refused_field n fs front f back e (Err d) three parts (told, none) same = unwritten front f back three parts none (same ∙ told)
 
-  pub too_many : 3 < length fs → Refused n fs (FieldCountWrong n)
-  too_many lt = count_wrong (λ e. omega arith) refl
-
-  pub unwritten_1 : (f g h : List ℕ) → fs ≡ f ∷ g ∷ h ∷ [] → Unwritten f → (e : Refusal) → e ≡ FieldUnreadable n 1 → Refused n fs e
-  unwritten_1 f g h s u e q = unwritten [] f (g ∷ h ∷ []) (ap length s) s u q
-
-  pub unwritten_2 : (f g h : List ℕ) (c : ℕ) → fs ≡ f ∷ g ∷ h ∷ [] → f ≡ decimal c → Unwritten g → (e : Refusal) → e ≡ FieldUnreadable n 2 → Refused n fs e
-  unwritten_2 f g h c s d u e q = unwritten (c ∷ []) g (h ∷ []) (ap length s) (s ∙ ap (λ x. x ∷ g ∷ h ∷ []) d) u q
-
-  pub unwritten_3 : (f g h : List ℕ) (c t : ℕ) → fs ≡ f ∷ g ∷ h ∷ [] → f ≡ decimal c → g ≡ decimal t → Unwritten h → (e : Refusal) → e ≡ FieldUnreadable n 3 → Refused n fs e
-  unwritten_3 f g h c t s d b u e q = unwritten (c ∷ t ∷ []) h [] (ap length s) (s ∙ ap (λ x. x ∷ g ∷ h ∷ []) d ∙ ap (λ x. decimal c ∷ x ∷ h ∷ []) b) u q
-
-  -- three numbers make a load, or the load is refused
-  pub three_numbers : (f g h : List ℕ) (c t j : ℕ) → fs ≡ f ∷ g ∷ h ∷ [] → f ≡ decimal c → g ≡ decimal t → h ≡ decimal j
-      → (r : Result Load Refusal) → Making record { occupancy = c; gap = t; jitter = j } r → Reading n fs r
-  three_numbers f g h c t j s a b d (Ok l) m =
-      let l0 : Load = record { occupancy = c; gap = t; jitter = j } in
-      let row : fs ≡ row_of l0 = s ∙ ap (λ x. x ∷ g ∷ h ∷ []) a ∙ ap (λ x. decimal c ∷ x ∷ h ∷ []) b ∙ ap (λ x. decimal c ∷ decimal t ∷ x ∷ []) d in
-      (subst IsLoad (sym m.0) m.1, row ∙ ap row_of (sym m.0))
-  three_numbers f g h c t j s a b d (Err e) m =
-      no_load record { occupancy = c; gap = t; jitter = j }
-      (s ∙ ap (λ x. x ∷ g ∷ h ∷ []) a ∙ ap (λ x. decimal c ∷ x ∷ h ∷ []) b ∙ ap (λ x. decimal c ∷ decimal t ∷ x ∷ []) d) m
+-- three numbers make a load, or the load is refused
+pub three_numbers : (n : ℕ) (fs : List (List ℕ)) (f g h : List ℕ) (c t j : ℕ) → fs ≡ f ∷ g ∷ h ∷ [] → f ≡ decimal c → g ≡ decimal t → h ≡ decimal j
+    → (r : Result Load Refusal) → Making record { occupancy = c; gap = t; jitter = j } r → Reading n fs r
+three_numbers n fs f g h c t j s a b d (Ok l) m = (subst IsLoad (sym m.0) m.1, cc)
+three_numbers n fs f g h c t j s a b d (Err e) m = no_load record { occupancy = c; gap = t; jitter = j } (cc) m
 
 -- ## All lines
 
 -- a text has no more lines than bytes
 pub lines_most : (bs : List ℕ) → length (lines bs) ≤ length bs
 lines_most [] = omega arith
-lines_most (b ∷ bs) = elim (eqb b 10) as (λ t. length (cond t ([] ∷ lines bs) (onto b (lines bs))) ≤ length (b ∷ bs)) [
-  | true ↦ omega (arith, lines_most bs)
-  | false ↦ omega (arith, onto_most b (lines bs), lines_most bs)
-]
+lines_most (b ∷ bs) = let le = lines_most bs in let more = onto_most b (lines bs) in grind (arith, nat_tests)
   where
     onto_most : (b : ℕ) (ls : List (List ℕ)) → length (onto b ls) ≤ length ls + 1
     onto_most b [] = omega arith
     onto_most b (l ∷ ls) = omega arith
 
--- after n lines that gave the loads xs, what the lines ls read as decides what all lines read as
+-- where the lines before the n-th gave the loads xs, what the lines ls from it on read as decides what all lines read as
 pub record ReadOn (all : List (List ℕ)) (n : ℕ) (ls : List (List ℕ)) (xs : List Load) : Type 0 where
-  pub loads : (ys : List Load) → AllRead (n + 1) ls (Ok ys) → AllRead 1 all (Ok (xs ++ ys))
-  pub fault : (f : Fault) → AllRead (n + 1) ls (Err f) → AllRead 1 all (Err f)
+  pub loads : (ys : List Load) → AllRead n ls (Ok ys) → AllRead 1 all (Ok (xs ++ ys))
+  pub fault : (f : Fault) → AllRead n ls (Err f) → AllRead 1 all (Err f)
 
-pub read_on_start : (all : List (List ℕ)) → ReadOn all 0 all []
-read_on_start all = record { loads = λ ys h. h; fault = λ f h. h }
-
-module _ (all : List (List ℕ)) (n : ℕ) (l : List ℕ) (ls : List (List ℕ)) (xs : List Load) (old : ReadOn all n (l ∷ ls) xs) where
-  -- one load more
-  pub read_on_more : (x : Load) (ys : List Load) → ys ≡ xs ++ (x ∷ []) → Reading (n + 1) (fields l) (Ok x) → ReadOn all (n + 1) ls ys
-  read_on_more x ys e r = record {
-    loads = λ zs h. subst (λ as'. AllRead 1 all (Ok as')) (sym (ap (λ us. us ++ zs) e ∙ append_assoc xs (x ∷ []) zs)) (old.loads (x ∷ zs) (r, h));
-    fault = λ f h. old.fault f (inr (x, r, h));
-  }
-
-  -- a line that is no load
-  pub read_on_fault : (f : Fault) → f.line ≡ n + 1 → Reading (n + 1) (fields l) (Err f.refusal) → AllRead 1 all (Err f)
-  read_on_fault f e r = old.fault f (inl (e, r))
+-- the fault that `map_err` makes of the refusal of a line
+pub first_fault : {Called : Refusal → Type 0} (all : List (List ℕ)) (start n : ℕ) (left : List (List ℕ)) (l : List ℕ) (ls : List (List ℕ)) (xs : List Load)
+    → ReadOn all start left xs → n ≡ start → left ≡ l ∷ ls → (r : Result Load Refusal) (f : Fault)
+    → Reading n (fields l) r → MatchResult r (λ x. Err f ≡ Ok x) Called
+    → ((e : Refusal) → Called e → f ≡ record { line = n; refusal = e }) → AllRead 1 all (Err f)
+first_fault all start n left l ls xs old en el (Ok x) f reading other call = cc
+first_fault all start n left l ls xs old en el (Err e) f reading called call =
+    let here : ReadOn all n (l ∷ ls) xs = rw (en, ← el) old in
+    rw (call e called) (here.fault record { line = n; refusal = e } (inl (refl, reading)))
 
 -- all lines are read
 pub read_on_end : (all : List (List ℕ)) (n : ℕ) (ls : List (List ℕ)) (xs : List Load) → ReadOn all n ls xs → ls ≡ [] → AllRead 1 all (Ok xs)

@@ -6,6 +6,7 @@
 --                      or the first ground that it meets
 --   AllRead n ls r     r is what the lines ls read as, the first of them the n-th: all loads, in order,
 --                      or the first line that is none, with its ground
+--   IsFirstFault ls e  e is the first of the lines ls that is no load, with its ground, or want of memory
 
 use Rattle.std.specs.Prelude.{◌≡◌, ℕ, ◌+◌, ◌^◌, ◌<◌, ◌⊎◌, List, [], ◌∷◌, ◌++◌, map, length, Ok, Err, decimal, Result}
 use Rattle.definitions.specs.declared.loads.Load.{Load}
@@ -14,6 +15,8 @@ use Rattle.definitions.specs.declared.refusals.Refusal.TheVariants.{FieldCountWr
 use Rattle.definitions.specs.Loads.{IsLoad, Making}
 use Rattle.definitions.specs.Text.{fields}
 use Rattle.port_check.specs.declared.faults.Fault.{Fault}
+use Rattle.port_check.specs.declared.input.ReadError.{ReadError}
+use Rattle.port_check.specs.declared.input.ReadError.TheVariants.{Faulty, OutOfMemory}
 
 abbrev pub row_of : Load → List (List ℕ)
 row_of l = decimal l.occupancy ∷ decimal l.gap ∷ decimal l.jitter ∷ []
@@ -41,3 +44,7 @@ AllRead n (l ∷ ls) (Ok (x ∷ xs)) = Reading n (fields l) (Ok x) × AllRead (n
 AllRead n (l ∷ ls) (Err f) =
     ((f.line ≡ n) × Reading n (fields l) (Err f.refusal))
     ⊎ ((x : Load) × Reading n (fields l) (Ok x) × AllRead (n + 1) ls (Err f))
+
+abbrev pub IsFirstFault : List (List ℕ) → ReadError → Type 0
+IsFirstFault ls (Faulty f) = AllRead 1 ls (Err f)
+IsFirstFault ls OutOfMemory = Unit {0}

@@ -1,22 +1,22 @@
 -- Output: what is said of a port's loads.
 --
 --   Reports rows r        r tells how many loads there are, their demand, and what each method says
---   Tells worth rows b    b is the worth of the rows, or tells why a method of this worth answers none
+--   Tells worth rows r    r is the worth of the rows, or tells why a method of this worth answers none
 
-use Rattle.std.specs.Prelude.{◌≡◌, ℕ, ◌<◌, List, length}
+use Rattle.std.specs.Prelude.{◌≡◌, ℕ, ◌<◌, List, length, Ok, Err, Result}
 use Rattle.folds.specs.Folds.{Told}
 use Rattle.definitions.specs.declared.loads.Load.{Load}
 use Rattle.definitions.specs.Loads.{AreLoads}
 use Rattle.definitions.specs.Methods.{Answerable, limit, forward, line}
 use Rattle.definitions.specs.Windows as windows
 use Rattle.port_check.specs.declared.output.Report.{Report}
-use Rattle.port_check.specs.declared.output.Backlog.{Backlog}
-use Rattle.port_check.specs.declared.output.Backlog.TheVariants.{Worst, Overloaded, PastLimit}
+use Rattle.port_check.specs.declared.output.NoBacklog.{NoBacklog}
+use Rattle.port_check.specs.declared.output.NoBacklog.TheVariants.{Overloaded, PastLimit}
 
-abbrev pub Tells : (List Load → ℕ) → List Load → Backlog → Type 0
-Tells worth rows (Worst w) = Answerable worth rows × (w ≡ worth rows)
-Tells worth rows Overloaded = windows.Overloaded rows
-Tells worth rows PastLimit = (¬ windows.Overloaded rows) × (AreLoads rows → limit < worth rows)
+abbrev pub Tells : (List Load → ℕ) → List Load → Result ℕ NoBacklog → Type 0
+Tells worth rows (Ok w) = Answerable worth rows × (w ≡ worth rows)
+Tells worth rows (Err Overloaded) = windows.Overloaded rows
+Tells worth rows (Err PastLimit) = (¬ windows.Overloaded rows) × (AreLoads rows → limit < worth rows)
 
 pub record Reports (rows : List Load) (r : Report) : Type 0 where
   pub count : r.loads ≡ length rows

@@ -6,24 +6,23 @@ mod faults;
 mod input;
 mod output;
 
+use input::ReadError;
 use std::alloc::{AllocError, Global};
 use std::io::Read;
 
 fn main(rt: HostRuntime) -> anyhow::Result<()> {
     let mut text = Vec::new(rt.alloc());
     rt.stdin().read_to_end(&mut text)?;
-    rt.print(check(rt.alloc(), text.as_slice())?.as_str())?;
+    print!(rt; "{}", check(rt.alloc(), &text)?)?;
     Ok(())
 }
 
 // What the program prints for this input: the report on its loads, or the first line that is no load.
 fn check(heap: Global, text: &[u8]) -> Result<String, AllocError> {
-    match input::read_loads(heap, text)? {
-        Ok(rows) => {
-            let report = output::report_on(rows.as_slice());
-            format!(in heap; "{report}")
-        }
-        Err(fault) => format!(in heap; "{fault}"),
+    match input::read_loads(heap, text) {
+        Ok(rows) => format!(in heap; "{}", output::report_on(&rows)),
+        Err(ReadError::Faulty(fault)) => format!(in heap; "{fault}"),
+        Err(ReadError::OutOfMemory) => Err(AllocError),
     }
 }
 

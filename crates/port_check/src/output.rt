@@ -4,48 +4,48 @@ ghost use Rattle.port_check.specs.Output.{Tells, Reports};
 use definitions::loads::Load;
 use methods::forward_analysis::Forward;
 use methods::network_calculus::Line;
-use methods::overload::HORIZON;
+use methods::overload::{self, HORIZON};
 use methods::{LIMIT, Method};
 use std::fmt;
 
-// A port's worst backlog by one method, or why there is none.
-#[derive(Clone, Copy)]
-pub enum Backlog {
-    Worst(u64),
+// Why a port has no worst backlog by a method.
+#[derive(Clone, Copy, Debug, PartialEq, Eq)]
+pub enum NoBacklog {
     Overloaded,
     PastLimit,
+}
+
+impl fmt::Display for NoBacklog {
+    fn fmt<W: fmt::Write>(&self, f: &mut fmt::Formatter<W>) -> fmt::Result {
+        match self {
+            NoBacklog::Overloaded => write!(f, "overloaded, so there is no worst backlog"),
+            NoBacklog::PastLimit => write!(f, "past the limit of {LIMIT} ns"),
+        }
+    }
 }
 
 #[derive(Clone, Copy)]
 pub struct Report {
     pub loads: usize,
     pub demand: Option<u64>,
-    pub forward: Backlog,
-    pub line: Backlog,
+    pub forward: Result<u64, NoBacklog>,
+    pub line: Result<u64, NoBacklog>,
 }
 
 impl fmt::Display for Report {
     fn fmt<W: fmt::Write>(&self, f: &mut fmt::Formatter<W>) -> fmt::Result {
-        let loads = self.loads;
-        writeln!(f, "loads    {loads:>12}")?;
+        writeln!(f, "loads    {:>12}", self.loads)?;
         match self.demand {
             Some(demand) => writeln!(f, "demand   {demand:>12} ns in every {HORIZON} ns")?,
             None => writeln!(f, "demand   past 64 bits")?,
         }
-        write_backlog(f, "Forward", self.forward)?;
-        write_backlog(f, "Line", self.line)
-    }
-}
-
-fn write_backlog<W: fmt::Write>(
-    f: &mut fmt::Formatter<W>,
-    method: &str,
-    backlog: Backlog,
-) -> fmt::Result {
-    match backlog {
-        Backlog::Worst(worst) => writeln!(f, "{method:<8} {worst:>12} ns"),
-        Backlog::Overloaded => writeln!(f, "{method:<8} overloaded, so there is no worst backlog"),
-        Backlog::PastLimit => writeln!(f, "{method:<8} past the limit of {LIMIT} ns"),
+        for (method, backlog) in [("Forward", self.forward), ("Line", self.line)] {
+            match backlog {
+                Ok(worst) => writeln!(f, "{method:<8} {worst:>12} ns")?,
+                Err(reason) => writeln!(f, "{method:<8} {reason}")?,
+            }
+        }
+        Ok(())
     }
 }
 
@@ -55,19 +55,18 @@ pub fn report_on(rows: &[Load]) -> Report
 {
     Report {
         loads: rows.len(),
-        demand: methods::overload::demand(rows),
+        demand: overload::demand(rows),
         forward: worst_backlog(&Forward, rows),
         line: worst_backlog(&Line, rows),
     }
 }
 
 // What a method says of a port's loads.
-fn worst_backlog<M: Method>(method: &M, rows: &[Load]) -> Backlog
+fn worst_backlog<M: Method>(method: &M, rows: &[Load]) -> Result<u64, NoBacklog>
     ensures { Tells (M.Method.worth method.now) rows.now result }
 {
-    match method.answer(rows) {
-        Some(worst) => Backlog::Worst(worst),
-        None if methods::overload::overloaded(rows) => Backlog::Overloaded,
-        None => Backlog::PastLimit,
+    if overload::overloaded(rows) {
+        return Err(NoBacklog::Overloaded);
     }
+    method.answer(rows).ok_or(NoBacklog::PastLimit)
 }

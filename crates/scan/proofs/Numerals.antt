@@ -1,54 +1,59 @@
 -- Reading digits one after another.
-use Rattle.std.proofs.Common.{◌≡◌, ℕ, ◌+◌, ◌-◌, ◌*◌, ◌^◌, ◌<◌, ◌≤◌, Bool, true, false, cond, ◌&&◌, leb, List, [], ◌∷◌, length, get_or, drop, Some, None, sym, refl, ap, ◌∙◌, arith}
-use Rattle.std.proofs.lemmas.List.{at_drop_more, at_drop_all}
-use Rattle.std.proofs.lemmas.Bool.{le-leb, lt-leb, and_from, ne_eqb, eq-eqb, leb-true, and_parts}
-use Rattle.definitions.specs.Text.{number_on, number_in}
-
-is_digit : ℕ → Bool
-is_digit d = leb 48 d && leb d 57
+use Rattle.std.proofs.Common.{◌≡◌, ℕ, ◌+◌, ◌-◌, ◌*◌, ◌^◌, ◌<◌, ◌≤◌, Bool, true, false, cond, leb, List, [], ◌∷◌, length, Some, None, Option, MatchOption, sym, refl, ap, ◌∙◌, arith}
+use Rattle.std.proofs.lemmas.Fn.{fronts}
+use Rattle.std.specs.Bool.{then_some}
+use Rattle.std.specs.Borrow.{Bor}
+use Rattle.std.specs.Iterator.{Yields, YieldsThen}
+use Rattle.std.specs.List.{FoldsTo}
+use Rattle.std.specs.declared.slice.Iter.{Iter}
+use Rattle.std.proofs.lemmas.Bool.Decides.{nat_tests}
+use Rattle.definitions.specs.Text.{number_on}
 
 -- a number that is past the most stays so
-pub past_most : (most n : ℕ) (ds : List ℕ) → most < n → number_on most n ds ≡ None
-past_most most n [] h = rw (lt-leb n most h)
-past_most most n (d ∷ ds) h = elim (leb 48 d && leb d 57) as (λ b. cond b (number_on most (10 * n + (d - 48)) ds) None ≡ None) [
-  | true ↦ past_most most (10 * n + (d - 48)) ds (omega arith)
-  | false ↦ refl
-]
+past_most : (most n : ℕ) (ds : List ℕ) → most < n → number_on most n ds ≡ None
+past_most most n [] h = grind (arith, nat_tests)
+past_most most n (d ∷ ds) h = grind (arith, nat_tests, past_most most (10 * n + (d - 48)) ds)
 
-module _ (most n : ℕ) (bs : List ℕ) (i : ℕ) (lt : i < length bs) where
-  step : number_on most n (drop i bs) ≡ cond (leb 48 (get_or bs i 0) && leb (get_or bs i 0) 57) (number_on most (10 * n + (get_or bs i 0 - 48)) (drop (i + 1) bs)) None
-  step = at_drop_more (number_on most n) bs i 0 lt
+-- a digit more
+digit_more : (most n m d : ℕ) (ds : List ℕ) → 48 ≤ d → d ≤ 57 → m ≡ 10 * n + (d - 48) → number_on most n (d ∷ ds) ≡ number_on most m ds
+digit_more most n m d ds a b e = grind (arith, nat_tests)
 
-  -- a digit more
-  pub digit_more : (m : ℕ) → 48 ≤ get_or bs i 0 → get_or bs i 0 ≤ 57 → m ≡ 10 * n + (get_or bs i 0 - 48) → number_on most n (drop i bs) ≡ number_on most m (drop (i + 1) bs)
-  digit_more m a b e = step ∙ rw (and_from (leb 48 (get_or bs i 0)) (leb (get_or bs i 0) 57) (le-leb 48 (get_or bs i 0) a) (le-leb (get_or bs i 0) 57 b)) (ap (λ k. number_on most k (drop (i + 1) bs)) (sym e))
+-- a byte that is no digit, or a digit past what 64 bits hold, makes no number
+digit_none : (most n d : ℕ) (ds : List ℕ) → most < 2 ^ 64 → ((48 ≤ d) × (d ≤ 57) → 2 ^ 64 ≤ 10 * n + (d - 48)) → number_on most n (d ∷ ds) ≡ None
+digit_none most n d ds small h = grind (arith, nat_tests, past_most)
 
-  -- a byte that is no digit, or a digit past what 64 bits hold, makes no number
-  pub digit_none : most < 2 ^ 64 → ((48 ≤ get_or bs i 0) × (get_or bs i 0 ≤ 57) → 2 ^ 64 ≤ 10 * n + (get_or bs i 0 - 48)) → number_on most n (drop i bs) ≡ None
-  digit_none small h = step ∙ (elim (leb 48 (get_or bs i 0) && leb (get_or bs i 0) 57) as (λ b. (leb 48 (get_or bs i 0) && leb (get_or bs i 0) 57) ≡ b → cond b (number_on most (10 * n + (get_or bs i 0 - 48)) (drop (i + 1) bs)) None ≡ None) [
-    | true ↦ λ e.
-        let (a, b) = and_parts (leb 48 (get_or bs i 0)) (leb (get_or bs i 0) 57) e in
-        let large = h (leb-true 48 (get_or bs i 0) a, leb-true (get_or bs i 0) 57 b) in
-        past_most most (10 * n + (get_or bs i 0 - 48)) (drop (i + 1) bs) (omega arith)
-    | false ↦ λ e. refl
-  ] refl)
+-- the number, if it is at most the most
+abbrev pub within : ℕ → Option ℕ → Option ℕ
+within most None = None
+within most (Some n) = then_some (leb n most) n
 
--- at the end the number is told if it is at most the most
-pub digits_end : (most n : ℕ) (bs : List ℕ) (i : ℕ) → length bs ≤ i → number_on most n (drop i bs) ≡ cond (leb n most) (Some n) None
-digits_end most n bs i le = at_drop_all (number_on most n) bs i le
+-- what a `filter` leaves of it
+pub filtered : {Answers : ℕ → Bool → Type 0} (most : ℕ) (r s : Option ℕ) → MatchOption r (s ≡ None) (λ n. (b : Bool) × Answers n b × (s ≡ then_some b n))
+    → ((n : ℕ) (b : Bool) → Answers n b → b ≡ leb n most) → s ≡ within most r
+filtered most None s e test = e
+filtered most (Some n) s (b, call, e) test = e ∙ ap (λ t. then_some t n) (test n b call)
 
--- a field without a leading zero is read digit by digit
-pub unpadded : (most : ℕ) (f : List ℕ) → 0 < length f → (get_or f 0 0 ≡ 48 → length f ≤ 1) → number_in most f ≡ number_on most 0 f
-unpadded most [] some h = absurd (omega arith)
-unpadded most (d ∷ []) some h = refl
-unpadded most (d ∷ e ∷ ds) some h = rw (ne_eqb d 48 (λ z. omega (arith, h z)))
+-- turns that add a digit each lead on to what is left
+digits_on : {F : Type 0} (R : F × ℕ → Bor ℕ → F × ℕ → Type 0) (most : ℕ) (xs : List (Bor ℕ)) (s t : Iter ℕ) (p q : F × ℕ) → Yields fronts s xs t → FoldsTo R p xs q
+    → ((p q : F × ℕ) (x : Bor ℕ) → R p x q → (48 ≤ x.now) × (x.now ≤ 57) × (q.1 ≡ 10 * p.1 + (x.now - 48)))
+    → number_on most p.1 s.rest.now ≡ number_on most q.1 t.rest.now
+digits_on R most [] s t p q e f turn = ap (λ (i : Iter ℕ). number_on most p.1 i.rest.now) e ∙ ap (λ (n : _ × ℕ). number_on most n.1 t.rest.now) f
+digits_on R most (x ∷ xs) s t p q (j, e, more) (v, call, folds) turn =
+    let (a, b, m) = turn p v x call in
+    ap (number_on most p.1) e ∙ digit_more most p.1 v.1 x.now j.rest.now a b m ∙ digits_on R most xs j t v q more folds turn
 
--- one with a leading zero is none
-pub padded : (most : ℕ) (f : List ℕ) → 1 < length f → get_or f 0 0 ≡ 48 → number_in most f ≡ None
-padded most [] long z = absurd (omega arith)
-padded most (d ∷ []) long z = absurd (omega arith)
-padded most (d ∷ e ∷ ds) long z = rw (eq-eqb d 48 z)
-
-pub none_written : (most : ℕ) (f : List ℕ) → length f ≡ 0 → number_in most f ≡ None
-none_written most [] e = refl
-none_written most (d ∷ ds) e = absurd (omega arith)
+-- what a `try_fold` over the bytes reads: each turn that goes on adds a digit, and one that breaks off could not
+pub digits_read : {F : Type 0} {R : F × ℕ → Bor ℕ → F × ℕ → Type 0} {C : F → ℕ → Bor ℕ → Type 0} {s u : Iter ℕ} {f : F} (most : ℕ) (r : Option ℕ)
+    → (xs : List (Bor ℕ)) × (o : Option (Bor ℕ)) × (g : F) × (n : ℕ) × YieldsThen fronts s xs o u × FoldsTo R (f, 0) xs (g, n) × MatchOption o (r ≡ Some n) (C g n)
+    → ((p q : F × ℕ) (x : Bor ℕ) → R p x q → (48 ≤ x.now) × (x.now ≤ 57) × (q.1 ≡ 10 * p.1 + (x.now - 48)))
+    → ((g : F) (n : ℕ) (x : Bor ℕ) → C g n x → (r ≡ None) × ((48 ≤ x.now) × (x.now ≤ 57) → 2 ^ 64 ≤ 10 * n + (x.now - 48)))
+    → most < 2 ^ 64 → number_on most 0 s.rest.now ≡ within most r
+digits_read {R = R} {s = s} {u = u} {f = f} most r (xs, None, g, n, (t, given, last), folds, e) turn stop small =
+    digits_on R most xs s t (f, 0) (g, n) given folds turn ∙ digits_end most n t.rest.now last.0 ∙ ap (within most) (sym e)
+  where
+    digits_end : (most n : ℕ) (bs : List ℕ) → length bs ≡ 0 → number_on most n bs ≡ then_some (leb n most) n
+    digits_end most n [] e = elim (leb n most) as (λ b. cond b (Some n) None ≡ then_some b n) [ true ↦ refl | false ↦ refl ]
+    digits_end most n (b ∷ bs) e = absurd (omega arith)
+digits_read {R = R} {s = s} {u = u} {f = f} most r (xs, Some x, g, n, (t, given, last), folds, broken) turn stop small =
+    let (e, h) = stop g n x broken in
+    digits_on R most xs s t (f, 0) (g, n) given folds turn ∙ ap (number_on most n) last ∙ digit_none most n x.now u.rest.now small h ∙ ap (within most) (sym e)

@@ -1,10 +1,10 @@
-// Lines, fields and numbers of a text of bytes, as cursors that borrow it.
+// Lines, fields and numbers of a text of bytes, as iterators that borrow it.
 #![tactic(auto)]
 
-ghost use Rattle.std.specs.Prelude.{◌≡◌, ◌+◌, ◌-◌, ◌*◌, ◌^◌, ◌<◌, ◌≤◌, [], ◌∷◌, length, take, MatchOption, slice_index};
+ghost use Rattle.std.specs.Prelude.{◌≡◌, ◌+◌, ◌-◌, ◌*◌, ◌^◌, ◌<◌, ◌≤◌, [], ◌∷◌, MatchOption};
+ghost use Rattle.std.specs.Iterator.{YieldsFirstRef, item_count};
 ghost use Rattle.definitions.specs.Text.{lines, fields, number_on, number_in};
-ghost use Rattle.definitions.specs.Promises.{Lacks};
-ghost use Rattle.scan.specs.Cursors.{Cut, fields_left};
+ghost use Rattle.scan.specs.Cursors.{Cut, lines_left, fields_left};
 
 // The lines of a text that are still to come.
 #[derive(Clone, Copy)]
@@ -12,79 +12,70 @@ pub struct Lines<'a> {
     pub rest: &'a [u8],
 }
 
-// The fields of a line that are still to come; where none is, `more` is false.
+// The fields of a line that are still to come: those of `rest`, if there is one.
 #[derive(Clone, Copy)]
 pub struct Fields<'a> {
-    pub rest: &'a [u8],
-    pub more: bool,
+    pub rest: Option<&'a [u8]>,
 }
 
-// The place of the first `byte`, or the length where it does not stand there.
-fn find(bytes: &[u8], byte: u8) -> usize
-    ensures bound { result ≤ length bytes.now }
-    ensures before { Lacks byte (take result bytes.now) }
-    ensures at { result < length bytes.now → slice_index bytes.now result ≡ byte }
+// What stands before the first `byte`, and what stands after it, where there is one.
+#[tactic(auto, using(crate::proofs::Cutting::cut_none))]
+fn cut(bytes: &[u8], byte: u8) -> (&[u8], Option<&[u8]>)
+    ensures { Cut byte bytes.now result.0.now result.1 }
 {
-    for (i, b) in bytes.iter().enumerate() {
-        if *b == byte {
-            return i;
-        }
-    }
-    bytes.len()
-}
-
-// What stands before the first `byte` and what stands after it, and whether there is one.
-fn cut(bytes: &[u8], byte: u8) -> (&[u8], &[u8], bool)
-    ensures { Cut byte bytes.now result.0.now result.1.now result.2 }
-{
-    let end = find(bytes, byte);
-    if end < bytes.len() {
-        (&bytes[0..end], &bytes[end + 1..], true)
-    } else {
-        (bytes, &bytes[end..], false)
+    match bytes.iter().position(|b| *b == byte) {
+        Some(end) => (&bytes[..end], Some(&bytes[end + 1..])),
+        None => (bytes, None),
     }
 }
 
 impl<'a> Lines<'a> {
     pub fn of(text: &'a [u8]) -> Lines<'a>
-        ensures { lines result.rest.now ≡ lines text.now }
+        ensures { lines_left result ≡ lines text.now }
     {
         Lines { rest: text }
     }
+}
 
-    // The next line, without its line feed.
-    pub fn next(&mut self) -> Option<&'a [u8]>
-        ensures { MatchOption result (lines self.old.rest.now ≡ []) (λ l. lines self.old.rest.now ≡ l.now ∷ lines self.new.rest.now) }
-    {
+// Each line comes without its line feed.
+impl<'a> Iterator for Lines<'a> {
+    type Item = &'a [u8];
+
+    ghost next_gives = { YieldsFirstRef lines_left };
+
+    ghost remaining = { item_count lines_left };
+
+    #[tactic(auto, using(crate::proofs::Cutting::next_line))]
+    fn next(&mut self) -> Option<&'a [u8]> {
         if self.rest.is_empty() {
             return None;
         }
-        let (line, rest, _) = cut(self.rest, b'\n');
-        self.rest = rest;
+        let (line, rest) = cut(self.rest, b'\n');
+        self.rest = rest.unwrap_or_default();
         Some(line)
     }
 }
 
 impl<'a> Fields<'a> {
     pub fn of(line: &'a [u8]) -> Fields<'a>
-        ensures { fields_left result.more result.rest.now ≡ fields line.now }
+        ensures { fields_left result ≡ fields line.now }
     {
-        Fields {
-            rest: line,
-            more: true,
-        }
+        Fields { rest: Some(line) }
     }
+}
 
-    // The next field, without its comma.
-    pub fn next(&mut self) -> Option<&'a [u8]>
-        ensures { MatchOption result (fields_left self.old.more self.old.rest.now ≡ []) (λ f. fields_left self.old.more self.old.rest.now ≡ f.now ∷ fields_left self.new.more self.new.rest.now) }
-    {
-        if !self.more {
-            return None;
-        }
-        let (field, rest, more) = cut(self.rest, b',');
+// Each field comes without its comma.
+impl<'a> Iterator for Fields<'a> {
+    type Item = &'a [u8];
+
+    ghost next_gives = { YieldsFirstRef fields_left };
+
+    ghost remaining = { item_count fields_left };
+
+    #[tactic(auto, using(crate::proofs::Cutting::next_field))]
+    fn next(&mut self) -> Option<&'a [u8]> {
+        let (field, rest) = cut(self.rest?, b',');
         self.rest = rest;
-        self.more = more;
         Some(field)
     }
 }
@@ -93,29 +84,26 @@ impl<'a> Fields<'a> {
 pub fn number(field: &[u8], most: u64) -> Option<u64>
     ensures { result ≡ number_in most field.now }
 {
-    if field.is_empty() {
-        return None;
+    match field {
+        [] | [b'0', _, ..] => None,
+        _ => digits(field, most),
     }
-    if field[0] == b'0' && field.len() > 1 {
-        return None;
-    }
-    digits(field, most)
 }
 
 // The number that digits write, if it is at most `most`.
 fn digits(field: &[u8], most: u64) -> Option<u64>
     ensures { result ≡ number_on most 0 field.now }
 {
-    let mut n = 0u64;
-    for digit in field {
-        n = with_digit(n, *digit)?;
-    }
-    if n <= most { Some(n) } else { None }
+    field
+        .iter()
+        .try_fold(0, |n, digit| with_digit(n, *digit))
+        .filter(|n| *n <= most)
 }
 
 // The number with one digit more; none where the byte is no digit, or 64 bits do not hold the number.
 fn with_digit(n: u64, digit: u8) -> Option<u64>
-    ensures { MatchOption result (((48 ≤ digit) × (digit ≤ 57) → 2 ^ 64 ≤ 10 * n + (digit - 48))) (λ m. (48 ≤ digit) × (digit ≤ 57) × (m ≡ 10 * n + (digit - 48))) }
+    ensures { MatchOption result ((48 ≤ digit) × (digit ≤ 57) → 2 ^ 64 ≤ 10 * n + (digit - 48))
+        (λ m. (48 ≤ digit) × (digit ≤ 57) × (m ≡ 10 * n + (digit - 48))) }
 {
     match digit {
         b'0'..=b'9' => n.checked_mul(10)?.checked_add(u64::from(digit - b'0')),

@@ -1,13 +1,14 @@
 use Rattle.std.proofs.Common.{◌≡◌, ◌+◌, length, vec_items}
+use Rattle.std.specs.Iterator.Adapters.{zip_first, zip_second}
 use Rattle.definitions.specs.Text.{lines}
+use Rattle.scan.specs.Cursors.{lines_left}
 use Rattle.port_check.proofs.Lines.{ReadOn}
 use Rattle.port_check.proofs.input.read_loads.Given as goal
 
--- the lines so far and those that are left are all lines, and what is left, read on, gives the answer
-abbrev pub invariant-loop-row : goal.invariant-loop-row
-invariant-loop-row l =
-    (l.line + length (lines l.left.rest.now) ≡ length (lines l.text))
-    × ReadOn (lines l.text) l.line (lines l.left.rest.now) (vec_items l.rows)
-
-abbrev pub decreases-loop-row : goal.decreases-loop-row
-decreases-loop-row l = length (lines l.left.rest.now)
+-- the next line has the number that comes next, and what is left, read on, gives the answer
+abbrev pub invariant-loop-line : goal.invariant-loop-line
+invariant-loop-line l =
+    (goal.iterator-loop-line).can_next l.line-iterator
+    × (goal.iterator-loop-line).is_finite l.line-iterator
+    × ((zip_first l.line-iterator).start + length (lines_left (zip_second l.line-iterator)) ≡ length (lines l.text) + 1)
+    × ReadOn (lines l.text) (zip_first l.line-iterator).start (lines_left (zip_second l.line-iterator)) (vec_items l.rows)
