@@ -6,6 +6,7 @@
 --                      or the first ground that it meets
 --   AllRead n ls r     r is what the lines ls read as, the first of them the n-th: all loads, in order,
 --                      or the first line that is none, with its ground
+--   IsOutOfMemory e    e is want of memory
 --   IsFirstFault ls e  e is the first of the lines ls that is no load, with its ground, or want of memory
 
 use Rattle.std.specs.Prelude.{◌≡◌, ℕ, ◌+◌, ◌^◌, ◌<◌, ◌⊎◌, List, [], ◌∷◌, ◌++◌, map, length, Ok, Err, decimal, Result}
@@ -45,6 +46,10 @@ AllRead n (l ∷ ls) (Err f) =
     ((f.line ≡ n) × Reading n (fields l) (Err f.refusal))
     ⊎ ((x : Load) × Reading n (fields l) (Ok x) × AllRead (n + 1) ls (Err f))
 
+abbrev pub IsOutOfMemory : ReadError → Type 0
+IsOutOfMemory (OutOfMemory e) = Unit {0}
+IsOutOfMemory (Faulty f) = ⊥
+
 abbrev pub IsFirstFault : List (List ℕ) → ReadError → Type 0
 IsFirstFault ls (Faulty f) = AllRead 1 ls (Err f)
-IsFirstFault ls OutOfMemory = Unit {0}
+IsFirstFault ls (OutOfMemory e) = Unit {0}

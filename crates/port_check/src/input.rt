@@ -2,20 +2,20 @@
 ghost use Rattle.std.specs.Prelude.{◌≡◌, [], ◌∷◌, length, Ok, decimal, MatchOption, MatchResult};
 ghost use Rattle.definitions.specs.declared.refusals.Refusal.TheVariants.{FieldUnreadable};
 ghost use Rattle.definitions.specs.Text.{lines, fields};
-ghost use Rattle.port_check.specs.declared.input.ReadError.TheVariants.{Faulty, OutOfMemory};
-ghost use Rattle.port_check.specs.Input.{Unwritten, Reading, AllRead, IsFirstFault};
+ghost use Rattle.port_check.specs.declared.input.ReadError.TheVariants.{Faulty};
+ghost use Rattle.port_check.specs.Input.{Unwritten, Reading, AllRead, IsFirstFault, IsOutOfMemory};
 
 use crate::faults::Fault;
 use definitions::loads::Load;
 use definitions::refusals::Refusal;
 use scan::{Fields, Lines};
-use std::alloc::{AllocFailed, Global};
+use std::alloc::{AllocError, AllocFailed, Global};
 
 // Why a text gave no loads.
 #[derive(Clone, Copy, Debug, PartialEq, Eq)]
 pub enum ReadError {
     Faulty(Fault),
-    OutOfMemory,
+    OutOfMemory(AllocError),
 }
 
 impl From<Fault> for ReadError {
@@ -27,10 +27,10 @@ impl From<Fault> for ReadError {
 }
 
 impl From<AllocFailed<Load>> for ReadError {
-    ghost from_gives = { λ _ e. e ≡ OutOfMemory };
+    ghost from_gives = { λ _ e. IsOutOfMemory e };
 
-    fn from(_e: AllocFailed<Load>) -> ReadError {
-        ReadError::OutOfMemory
+    fn from(e: AllocFailed<Load>) -> ReadError {
+        ReadError::OutOfMemory(e.into())
     }
 }
 

@@ -22,7 +22,7 @@ fn check(heap: Global, text: &[u8]) -> Result<String, AllocError> {
     match input::read_loads(heap, text) {
         Ok(rows) => format!(in heap; "{}", output::report_on(&rows)),
         Err(ReadError::Faulty(fault)) => format!(in heap; "{fault}"),
-        Err(ReadError::OutOfMemory) => Err(AllocError),
+        Err(ReadError::OutOfMemory(e)) => Err(e),
     }
 }
 

@@ -65,8 +65,11 @@ pub fn report_on(rows: &[Load]) -> Report
 fn worst_backlog<M: Method>(method: &M, rows: &[Load]) -> Result<u64, NoBacklog>
     ensures { Tells (M.Method.worth method.now) rows.now result }
 {
-    if overload::overloaded(rows) {
-        return Err(NoBacklog::Overloaded);
-    }
-    method.answer(rows).ok_or(NoBacklog::PastLimit)
+    method.answer(rows).ok_or_else(|| {
+        if overload::overloaded(rows) {
+            NoBacklog::Overloaded
+        } else {
+            NoBacklog::PastLimit
+        }
+    })
 }
