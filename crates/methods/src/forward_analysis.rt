@@ -49,7 +49,8 @@ fn largest_backlog(rows: &[Load]) -> Option<u64>
 // The first date after `date` at which a load can bring a frame; a horizon later where there are no loads.
 #[tactic(auto, using(crate::proofs::Nearest::flat_before_nearest), unfolding(definitions::specs::Windows::horizon))]
 fn next_date(rows: &[Load], date: u64) -> u64
-    requires { (AreLoads rows.now) × (date < horizon) }
+    requires loads { AreLoads rows.now }
+    requires within { date < horizon }
     ensures later { date < result }
     ensures flat { (u : ℕ) → date ≤ u → u < result → W rows.now u ≡ W rows.now date }
 {

@@ -7,5 +7,5 @@ use Rattle.methods.proofs.forward_analysis.next_date.Goals as goal
 pub returns-clause-later : goal.returns-clause-later
 unfolding horizon
 returns-clause-later c =
-    let most = nearness_most c.args.rows.now c.requires.0 c.args.date in
+    let most = nearness_most c.args.rows.now c.requires.loads c.args.date in
     grind (arith, common_steps)
