@@ -1,11 +1,12 @@
 -- Refusals: the number of each ground on which a call refuses.
 --
 --   number r      the ground's number, which the fault line prints and the documents explain
+--   refused_by r  the refusal as it is printed: "refused by" and the number
 --   place r       the line or the port that a refusal tells, 0 where it tells none
 --   field r       the field that it tells, 0 where it tells none
 --   carried r     the number of the ground on which an entry of a text was refused, 0 elsewhere
 
-use Rattle.std.specs.Prelude.{ℕ}
+use Rattle.std.specs.Prelude.{ℕ, List, ◌++◌, decimal, codes}
 use Rattle.definitions.specs.declared.refusals.Refusal.{Refusal}
 use Rattle.definitions.specs.declared.refusals.Refusal.TheVariants.{RateUnknown, PortPresent, PortTableFull, GapUnknown, OutOfRange, LinkPresent, LinkTableFull, LinkUnknown, PortUnknown, HopPresent, KindUnsuited, SecondFirstHop, NoHopBefore, HopTableFull, BookNotEmpty, ByteForbidden, LineUnfinished, MarkMissing, VersionUnknown, HeadingWrong, FieldCountWrong, FieldUnreadable, EntryRefused, OutputShort, LoadTableShort, PortOverloaded, PortInRing, FigurePastLimit, NoFigures, NoHopThere, NoHops}
 
@@ -48,6 +49,9 @@ number (FigurePastLimit port) = 28
 number NoFigures = 29
 number NoHopThere = 30
 number NoHops = 31  -- the link has no hops
+
+abbrev pub refused_by : Refusal → List ℕ
+refused_by r = codes "refused by " ++ decimal (number r)
 
 abbrev pub place : Refusal → ℕ
 place RateUnknown = 0

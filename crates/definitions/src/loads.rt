@@ -1,4 +1,4 @@
-ghost use Rattle.std.specs.Prelude.{◌≡◌, Decides};
+ghost use Rattle.std.specs.Prelude.{◌≡◌, ◌↔◌, IsTrue};
 ghost use Rattle.definitions.specs.Loads.{IsGap, InRange, IsLoad, Making};
 
 use crate::refusals::Refusal;
@@ -12,7 +12,7 @@ pub const MOST_JITTER: u64 = 10_000_016_000;
 // `occupancy`, frames are released at least `gap` apart and arrive up to `jitter` early or late
 // of that rhythm. All in ns. The fields are open, so a row of a lent table may hold anything;
 // `is_load` says whether a row keeps the rules, and `new` makes only such rows.
-#[derive(Clone, Copy, PartialEq, Eq, Debug)]
+#[derive(Clone, Copy, Default, PartialEq, Eq, Debug)]
 pub struct Load {
     pub occupancy: u64,
     pub gap: u64,
@@ -40,26 +40,32 @@ impl Load {
 
     // Whether this row keeps the rules of a load.
     pub fn is_load(&self) -> bool
-        ensures { Decides result (IsLoad self.now) }
+        ensures { IsTrue result ↔ IsLoad self.now }
     {
         is_gap(self.gap) && self.in_range()
     }
 
     fn in_range(&self) -> bool
-        ensures { Decides result (InRange self.now) }
+        ensures { IsTrue result ↔ InRange self.now }
     {
-        1 <= self.occupancy && self.occupancy <= MOST_OCCUPANCY && self.jitter <= MOST_JITTER
+        (1..=MOST_OCCUPANCY).contains(&self.occupancy) && self.jitter <= MOST_JITTER
     }
 }
 
 fn is_gap(gap: u64) -> bool
-    ensures { Decides result (IsGap gap) }
+    ensures { IsTrue result ↔ IsGap gap }
 {
-    match gap {
-        1_000_000 | 2_000_000 | 4_000_000 | 8_000_000 => true,
-        16_000_000 | 32_000_000 | 64_000_000 | 128_000_000 => true,
-        _ => false,
-    }
+    matches!(
+        gap,
+        1_000_000
+            | 2_000_000
+            | 4_000_000
+            | 8_000_000
+            | 16_000_000
+            | 32_000_000
+            | 64_000_000
+            | 128_000_000
+    )
 }
 
 #[cfg(test)]

@@ -1,16 +1,17 @@
 // The records of a network: output ports, virtual links and the hops of links at ports.
 // A value of these types may break the rules; a book takes only what keeps them.
 
-#[derive(Clone, Copy, PartialEq, Eq, Debug)]
+#[derive(Clone, Copy, Default, PartialEq, Eq, Debug)]
 pub enum PortKind {
     // of an end system, where links begin
+    #[default]
     End,
     // of a switch
     Switch,
 }
 
 // An output port, with its rate in Mb/s.
-#[derive(Clone, Copy, PartialEq, Eq, Debug)]
+#[derive(Clone, Copy, Default, PartialEq, Eq, Debug)]
 pub struct Port {
     pub number: u8,
     pub kind: PortKind,
@@ -18,7 +19,7 @@ pub struct Port {
 }
 
 // A virtual link, with its gap (BAG) in ms and the lengths of its frames in bytes.
-#[derive(Clone, Copy, PartialEq, Eq, Debug)]
+#[derive(Clone, Copy, Default, PartialEq, Eq, Debug)]
 pub struct VirtualLink {
     pub number: u16,
     pub gap: u16,
@@ -27,7 +28,7 @@ pub struct VirtualLink {
 }
 
 // A link passes a port, after another port or, at its first hop, after none.
-#[derive(Clone, Copy, PartialEq, Eq, Debug)]
+#[derive(Clone, Copy, Default, PartialEq, Eq, Debug)]
 pub struct Hop {
     pub link: u16,
     pub port: u8,

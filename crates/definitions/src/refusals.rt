@@ -1,5 +1,8 @@
-ghost use Rattle.std.specs.Prelude.{◌≡◌};
-ghost use Rattle.definitions.specs.Refusals.{number};
+ghost use Rattle.std.specs.Prelude.{◌≡◌, Some};
+ghost use Rattle.definitions.specs.Refusals.{number, refused_by};
+
+use std::error::Error;
+use std::fmt;
 
 // Why a call refuses: one case for each ground, with the values that it tells.
 // The number of each ground is fixed by `number` in specs/Refusals.antt.
@@ -31,6 +34,7 @@ pub enum Refusal {
     HeadingWrong { line: usize },
     FieldCountWrong { line: usize },
     FieldUnreadable { line: usize, field: usize },
+    // the ground by its number: to hold a Refusal itself would need the heap
     EntryRefused { line: usize, ground: u8 },
     // writing a text or a listing
     OutputShort,
@@ -83,5 +87,40 @@ impl Refusal {
             Refusal::NoHopThere => 30,
             Refusal::NoHops => 31,
         }
+    }
+}
+
+impl fmt::Display for Refusal {
+    ghost output = { λ r. Some (refused_by r) };
+
+    fn fmt<W: fmt::Write>(&self, f: &mut fmt::Formatter<W>) -> fmt::Result {
+        write!(f, "refused by {}", self.number())
+    }
+}
+
+impl Error for Refusal {}
+
+#[cfg(test)]
+mod tests {
+    use super::*;
+    use std::alloc::AllocError;
+
+    #[test]
+    fn printed(rt: HostRuntime) -> Result<(), AllocError> {
+        for (refusal, text) in [
+            (Refusal::RateUnknown, "refused by 1"),
+            (
+                Refusal::FieldUnreadable { line: 3, field: 2 },
+                "refused by 22",
+            ),
+            (
+                Refusal::EntryRefused { line: 7, ground: 5 },
+                "refused by 23",
+            ),
+        ] {
+            let printed = refusal.to_string(rt.alloc())?;
+            assert_eq!(rt; printed.as_str(), text);
+        }
+        Ok(())
     }
 }

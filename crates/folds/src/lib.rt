@@ -6,6 +6,7 @@ ghost use Rattle.definitions.specs.Lists.{total, largest};
 ghost use Rattle.folds.specs.Folds.{Told, IsLargest};
 
 // A way to measure items of one kind: `figure` says what an item's figure is, and `of` tells it.
+// It is no closure, since a contract can name `figure`, and not what a closure means.
 pub trait Measure {
     type Item;
 
@@ -20,11 +21,9 @@ pub trait Measure {
 pub fn sum<M: Measure>(measure: &M, items: &[M::Item]) -> Option<u64>
     ensures { Told (total (M.Measure.figure measure.now) items.now) result }
 {
-    let mut so_far = 0u64;
-    for item in items {
-        so_far = so_far.checked_add(measure.of(item)?)?;
-    }
-    Some(so_far)
+    items
+        .iter()
+        .try_fold(0u64, |so_far, item| so_far.checked_add(measure.of(item)?))
 }
 
 // The largest of the items' figures, 0 where there are none, or none exactly where 64 bits do not hold it.
@@ -32,11 +31,9 @@ pub fn largest<M: Measure>(measure: &M, items: &[M::Item]) -> Option<u64>
     ensures told { Told (largest (M.Measure.figure measure.now) items.now) result }
     ensures meant { IsLargest (M.Measure.figure measure.now) items.now (largest (M.Measure.figure measure.now) items.now) }
 {
-    let mut most = 0u64;
-    for item in items {
-        most = most.max(measure.of(item)?);
-    }
-    Some(most)
+    items
+        .iter()
+        .try_fold(0u64, |most, item| Some(most.max(measure.of(item)?)))
 }
 
 #[cfg(test)]

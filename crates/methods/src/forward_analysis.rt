@@ -5,8 +5,9 @@ ghost use Rattle.definitions.specs.Windows.{horizon, W};
 ghost use Rattle.definitions.specs.Methods.{forward, limit};
 ghost use Rattle.theory.proofs.Largest.{forward_is_the_least_lawful};
 
-use crate::Method;
 use crate::measures::{HORIZON, Nearness, Window};
+use crate::overload::carried;
+use crate::{Method, within_limit};
 use definitions::loads::Load;
 
 // The method whose worth is the largest of W(t) − t over all whole t.
@@ -19,10 +20,10 @@ impl Method for Forward {
     ghost lawful = { λ m. forward_is_the_least_lawful.0 };
 
     fn answer(&self, rows: &[Load]) -> Option<u64> {
-        if !crate::overload::carried(rows) {
+        if !carried(rows) {
             return None;
         }
-        crate::within_limit(largest_backlog(rows)?)
+        within_limit(largest_backlog(rows)?)
     }
 }
 
@@ -34,26 +35,27 @@ fn largest_backlog(rows: &[Load]) -> Option<u64>
 {
     let mut date = 0;
     let mut worst = 0u64;
-    let largest = loop {
+    loop {
         let work = folds::sum(&Window { t: date }, rows)?;
         worst = worst.max(work.saturating_sub(date));
         let next = next_date(rows, date);
         if work < next || HORIZON <= next {
-            break worst;
+            return Some(worst);
         }
         date = next;
-    };
-    Some(largest)
+    }
 }
 
 // The first date after `date` at which a load can bring a frame; a horizon later where there are no loads.
+#[tactic(auto, using(crate::proofs::Nearest::flat_before_nearest), unfolding(definitions::specs::Windows::horizon))]
 fn next_date(rows: &[Load], date: u64) -> u64
-    requires { (AreLoads rows.now) × (date < horizon) }
+    requires loads { AreLoads rows.now }
+    requires within { date < horizon }
     ensures later { date < result }
     ensures flat { (u : ℕ) → date ≤ u → u < result → W rows.now u ≡ W rows.now date }
 {
-    match folds::largest(&Nearness { t: date }, rows) {
-        Some(nearness) => date + (HORIZON - nearness),
-        None => date + 1,
-    }
+    folds::largest(&Nearness { t: date }, rows).map_or(
+        date + 1,
+        |nearness| date + (HORIZON - nearness),
+    )
 }

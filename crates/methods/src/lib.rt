@@ -20,7 +20,8 @@ pub trait Method {
     ghost worth: { Self → List LoadRow → ℕ };
 
     // The worth of the list, or none exactly where a row is no load, the list is overloaded,
-    // or the worth exceeds 10,000,000,000 ns.
+    // or the worth exceeds 10,000,000,000 ns. Each method tests the rows itself: to share that here
+    // would take a second method with a `requires`, and no public function has one.
     fn answer(&self, rows: &[Load]) -> Option<u64>
         ensures { Answers (worth self.now) rows.now result };
 
@@ -33,5 +34,5 @@ pub const LIMIT: u64 = 10_000_000_000;
 fn within_limit(worth: u64) -> Option<u64>
     ensures { MatchOption result (limit < worth) (λ w. (w ≡ worth) × (worth ≤ limit)) }
 {
-    if worth <= LIMIT { Some(worth) } else { None }
+    (worth <= LIMIT).then_some(worth)
 }

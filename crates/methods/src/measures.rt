@@ -19,8 +19,9 @@ impl Measure for Demand {
 
     ghost figure = { λ _ l. l.occupancy * (horizon / l.gap) };
 
+    #[tactic(auto, unfolding(definitions::specs::Windows::horizon))]
     fn of(&self, load: &Load) -> Option<u64> {
-        let frames = if load.gap == 0 { 0 } else { HORIZON / load.gap };
+        let frames = HORIZON.checked_div(load.gap).unwrap_or(0);
         load.occupancy.checked_mul(frames)
     }
 }
@@ -54,6 +55,7 @@ impl Measure for Nearness {
 
     ghost figure = { λ m l. horizon - (l.gap - (m.t + l.jitter) % l.gap) };
 
+    #[tactic(auto, unfolding(definitions::specs::Windows::horizon))]
     fn of(&self, load: &Load) -> Option<u64> {
         let since = u128::from(self.t) + u128::from(load.jitter);
         let (_, past) = divided(since, load.gap);
@@ -80,7 +82,7 @@ impl Measure for Share {
 }
 
 // Quotient and remainder; by 0 they are 0 and the number itself, as in the definitions.
-// Numbers of 64 bits, the usual case, are divided as such.
+// Numbers of 64 bits, the usual case, are divided as such: 128 bits throughout took twice as long.
 fn divided(n: u128, by: u64) -> (u128, u128)
     ensures quotient { result.0 ≡ n / by }
     ensures remainder { result.1 ≡ n % by }

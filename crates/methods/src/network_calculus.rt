@@ -2,8 +2,9 @@
 ghost use Rattle.definitions.specs.Methods.{line};
 ghost use Rattle.theory.proofs.Line.{line_is_lawful};
 
-use crate::Method;
 use crate::measures::Share;
+use crate::overload::carried;
+use crate::{Method, within_limit};
 use definitions::loads::Load;
 
 // The method whose worth is the sum over the loads of c + ceil(c × J / T).
@@ -16,9 +17,9 @@ impl Method for Line {
     ghost lawful = { λ m. line_is_lawful };
 
     fn answer(&self, rows: &[Load]) -> Option<u64> {
-        if !crate::overload::carried(rows) {
+        if !carried(rows) {
             return None;
         }
-        crate::within_limit(folds::sum(&Share, rows)?)
+        within_limit(folds::sum(&Share, rows)?)
     }
 }

@@ -1,5 +1,5 @@
 // Whether the loads of a port are loads at all, and whether the port can carry them.
-ghost use Rattle.std.specs.Prelude.{◌≡◌, Decides};
+ghost use Rattle.std.specs.Prelude.{◌↔◌, IsTrue};
 ghost use Rattle.definitions.specs.Loads.{AreLoads};
 ghost use Rattle.definitions.specs.Windows.{demand, Overloaded};
 ghost use Rattle.folds.specs.Folds.{Told};
@@ -16,30 +16,23 @@ pub fn demand(rows: &[Load]) -> Option<u64>
 }
 
 // Whether the demand exceeds 128 ms in 128 ms.
+#[tactic(auto, unfolding(definitions::specs::Windows::horizon))]
 pub fn overloaded(rows: &[Load]) -> bool
-    ensures { Decides result (Overloaded rows.now) }
+    ensures { IsTrue result ↔ Overloaded rows.now }
 {
-    match demand(rows) {
-        Some(brought) => HORIZON < brought,
-        None => true,
-    }
+    demand(rows).is_none_or(|brought| HORIZON < brought)
 }
 
 // Whether every row is a load.
 pub fn are_loads(rows: &[Load]) -> bool
-    ensures { Decides result (AreLoads rows.now) }
+    ensures { IsTrue result ↔ AreLoads rows.now }
 {
-    for row in rows {
-        if !row.is_load() {
-            return false;
-        }
-    }
-    true
+    rows.iter().all(Load::is_load)
 }
 
 // Whether the rows are loads that the port can carry.
 pub fn carried(rows: &[Load]) -> bool
-    ensures { Decides result (AreLoads rows.now × (Overloaded rows.now → ⊥)) }
+    ensures { IsTrue result ↔ (AreLoads rows.now × ¬ Overloaded rows.now) }
 {
     are_loads(rows) && !overloaded(rows)
 }

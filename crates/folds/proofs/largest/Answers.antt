@@ -1,35 +1,14 @@
-use Rattle.std.proofs.Common.{arith}
-use Rattle.folds.proofs.Rest.{largest_more, largest_all, largest_is_largest}
+use Rattle.std.proofs.Common.{max, rules, arith, tests}
+use Rattle.folds.proofs.Tried.{told_by_try_fold, largest_is_fold}
+use Rattle.folds.proofs.Reached.{largest_is_largest}
 use Rattle.folds.proofs.largest.Goals as goal
 
--- an item's figure that does not fit makes the largest too large
-pub returns-in_err-of : goal.returns-in_err-of
-returns-in_err-of g c = record {
-  told = rw c.from_residual.ensures
-      (omega (
-        arith,
-        c.loop-item.invariant,
-        c.in_err-of.ensures,
-        largest_more (g.M.Measure.figure c.args.measure.now) c.args.items.now c.loop-item.item-index c.item-item.result c.loop-item-test.true c.item-item.is,
-      ));
-  meant = largest_is_largest (g.M.Measure.figure c.args.measure.now) c.args.items.now;
-}
+pub returns-clause-told : goal.returns-clause-told
+returns-clause-told g c =
+    let figure = g.M.Measure.figure c.args.measure.now in
+    told_by_try_fold (λ a x. max a (figure x)) (λ i. i.rest.now) c.iter.result _ _ _ (λ a x. omega arith)
+    (rw c.iter.ensures.rest (omega (arith, largest_is_fold figure 0 c.args.items.now)))
+    c.iter.ensures.runs c.try_fold.ensures.runs (λ a x v f' k. search (rules, tests))
 
-pub loop-item-preserved : goal.loop-item-preserved
-loop-item-preserved g c =
-    omega (
-      arith,
-      c.loop-item.invariant,
-      c.in_ok-of.ensures,
-      largest_more (g.M.Measure.figure c.args.measure.now) c.args.items.now c.loop-item.item-index c.item-item.result c.loop-item-test.true c.item-item.is,
-    )
-
-pub returns : goal.returns
-returns g c = record {
-  told = omega (
-    arith,
-    c.loop-item.invariant,
-    largest_all (g.M.Measure.figure c.args.measure.now) c.args.items.now c.loop-item.item-index c.loop-item-test.false,
-  );
-  meant = largest_is_largest (g.M.Measure.figure c.args.measure.now) c.args.items.now;
-}
+pub returns-clause-meant : goal.returns-clause-meant
+returns-clause-meant g c = largest_is_largest _ _
