@@ -8,11 +8,9 @@ use definitions::refusals::Refusal;
 use std::io;
 
 fn main(rt: HostRuntime) -> io::Result<()> {
-    let mut ports = [row_of_port(0, PortKind::End, 0); 3];
-    let mut links = [LinkRow {
-        link: link(0, 0, 0, 0),
-    }; 2];
-    let mut hops = [row_of_hop(0, 0, None); 3];
+    let mut ports = [PortRow::default(); 3];
+    let mut links = [LinkRow::default(); 2];
+    let mut hops = [HopRow::default(); 3];
     let mut book = Book::open(&mut ports, &mut links, &mut hops);
     enter_ports(&rt, &mut book)?;
     enter_links(&rt, &mut book)?;
@@ -145,10 +143,7 @@ fn remove_links(rt: &HostRuntime, book: &mut Book) -> io::Result<()> {
 fn say(rt: &HostRuntime, call: &str, answer: Result<(), Refusal>) -> io::Result<()> {
     match answer {
         Ok(()) => println!(rt; "{call}: done"),
-        Err(refusal) => {
-            let number = refusal.number();
-            println!(rt; "{call}: refused by {number}")
-        }
+        Err(refusal) => println!(rt; "{call}: {refusal}"),
     }
 }
 
@@ -158,22 +153,16 @@ fn tell(rt: &HostRuntime, book: &Book) -> io::Result<()> {
     let links = book.link_count();
     let hops = book.hop_count();
     println!(rt; "the book has {ports} ports, {links} links and {hops} hops")?;
-    for place in 0..links {
-        if let Some(link) = book.link_at(place) {
-            let number = link.number;
-            println!(rt; "  link {number}")?;
-        }
+    for link in (0..links).filter_map(|place| book.link_at(place)) {
+        println!(rt; "  link {}", link.number)?;
     }
-    for place in 0..hops {
-        if let Some(hop) = book.hop_at(place) {
-            let link = hop.link;
-            let port = hop.port;
-            println!(rt; "  hop {link} at {port}")?;
-        }
+    for hop in (0..hops).filter_map(|place| book.hop_at(place)) {
+        println!(rt; "  hop {} at {}", hop.link, hop.port)?;
     }
     Ok(())
 }
 
+// Shorthand of this program: in the interface the numbers of a record are named.
 fn port(number: u8, kind: PortKind, rate: u16) -> Port {
     Port { number, kind, rate }
 }
@@ -189,14 +178,6 @@ fn link(number: u16, gap: u16, shortest: u16, longest: u16) -> VirtualLink {
 
 fn hop(link: u16, port: u8, after: Option<u8>) -> Hop {
     Hop { link, port, after }
-}
-
-fn row_of_port(number: u8, kind: PortKind, rate: u16) -> PortRow {
-    PortRow::new(port(number, kind, rate))
-}
-
-fn row_of_hop(link: u16, port: u8, after: Option<u8>) -> HopRow {
-    HopRow::new(hop(link, port, after))
 }
 
 #[cfg(test)]
@@ -223,11 +204,9 @@ mod tests {
 
     #[test]
     fn a_full_book_is_emptied_and_filled_again(rt: HostRuntime) {
-        let mut ports = [row_of_port(0, PortKind::End, 0); 1];
-        let mut links = [LinkRow {
-            link: link(0, 0, 0, 0),
-        }; 1];
-        let mut hops = [row_of_hop(0, 0, None); 1];
+        let mut ports = [PortRow::default(); 1];
+        let mut links = [LinkRow::default(); 1];
+        let mut hops = [HopRow::default(); 1];
         let mut book = Book::open(&mut ports, &mut links, &mut hops);
         for number in [7u8, 255] {
             assert_eq!(rt; book.enter_port(port(number, PortKind::End, 10)), Ok(()));

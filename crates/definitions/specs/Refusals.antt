@@ -1,7 +1,7 @@
 -- Refusals: the number of each ground on which a call refuses.
 --
 --   number r      the ground's number, which the fault line prints and the documents explain
---   refused_by r  the refusal as it is printed: "refused by" and the number
+--   printed r     the refusal as it is printed: "refused by" and the number
 --   place r       the line or the port that a refusal tells, 0 where it tells none
 --   field r       the field that it tells, 0 where it tells none
 --   carried r     the number of the ground on which an entry of a text was refused, 0 elsewhere
@@ -50,8 +50,8 @@ number NoFigures = 29
 number NoHopThere = 30
 number NoHops = 31  -- the link has no hops
 
-abbrev pub refused_by : Refusal → List ℕ
-refused_by r = codes "refused by " ++ decimal (number r)
+abbrev pub printed : Refusal → List ℕ
+printed r = codes "refused by " ++ decimal (number r)
 
 abbrev pub place : Refusal → ℕ
 place RateUnknown = 0

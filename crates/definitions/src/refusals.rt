@@ -1,5 +1,5 @@
 ghost use Rattle.std.specs.Prelude.{◌≡◌, Some};
-ghost use Rattle.definitions.specs.Refusals.{number, refused_by};
+ghost use Rattle.definitions.specs.Refusals.{number, printed};
 
 use std::error::Error;
 use std::fmt;
@@ -91,7 +91,7 @@ impl Refusal {
 }
 
 impl fmt::Display for Refusal {
-    ghost output = { λ r. Some (refused_by r) };
+    ghost output = { λ r. Some (printed r) };
 
     fn fmt<W: fmt::Write>(&self, f: &mut fmt::Formatter<W>) -> fmt::Result {
         write!(f, "refused by {}", self.number())

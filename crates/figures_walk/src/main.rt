@@ -15,15 +15,13 @@ use std::io;
 mod tests;
 
 fn main(rt: HostRuntime) -> io::Result<()> {
-    let mut ports = [PortRow::new(port(0, PortKind::End, 0)); 3];
-    let mut links = [LinkRow {
-        link: link(0, 0, 0, 0),
-    }; 2];
-    let mut hops = [HopRow::new(hop(0, 0, None)); 4];
-    let mut loads = [no_load(); 4];
+    let mut ports = [PortRow::default(); 3];
+    let mut links = [LinkRow::default(); 2];
+    let mut hops = [HopRow::default(); 4];
+    let mut loads = [Load::default(); 4];
     let mut book = Book::open(&mut ports, &mut links, &mut hops);
     if let Err(refusal) = enter_sample(&mut book) {
-        return tell_refusal(&rt, refusal);
+        return println!(rt; "{refusal}");
     }
     println!(rt; "by Forward")?;
     work_out(&rt, &mut book, &Forward, &mut loads)?;
@@ -51,7 +49,7 @@ fn work_out<M: Method>(
     loads: &mut [Load],
 ) -> io::Result<()> {
     if let Err(refusal) = book.work_out(method, loads) {
-        return tell_refusal(rt, refusal);
+        return println!(rt; "{refusal}");
     }
     tell_ports(rt, book)?;
     tell_hops(rt, book)?;
@@ -59,57 +57,42 @@ fn work_out<M: Method>(
 }
 
 fn tell_ports(rt: &HostRuntime, book: &Book) -> io::Result<()> {
-    for place in 0..book.port_count() {
-        let Some(port) = book.port_at(place) else {
-            return Ok(());
-        };
+    for port in (0..book.port_count()).filter_map(|place| book.port_at(place)) {
         let number = port.number;
         match book.port_figures(number) {
             Ok((backlog, depth)) => println!(rt;
                 "  port {number}: backlog {backlog} ns, depth {depth}"
             )?,
-            Err(refusal) => tell_refusal(rt, refusal)?,
+            Err(refusal) => println!(rt; "{refusal}")?,
         }
     }
     Ok(())
 }
 
 fn tell_hops(rt: &HostRuntime, book: &Book) -> io::Result<()> {
-    for place in 0..book.hop_count() {
-        let Some(hop) = book.hop_at(place) else {
-            return Ok(());
-        };
-        let link = hop.link;
-        let port = hop.port;
+    for Hop { link, port, .. } in (0..book.hop_count()).filter_map(|place| book.hop_at(place)) {
         match book.hop_figures(link, port) {
             Ok((earliest, latest, departure)) => println!(rt;
                 "  link {link} at port {port}: earliest {earliest} ns, latest {latest} ns, departure {departure} ns"
             )?,
-            Err(refusal) => tell_refusal(rt, refusal)?,
+            Err(refusal) => println!(rt; "{refusal}")?,
         }
     }
     Ok(())
 }
 
 fn tell_delays(rt: &HostRuntime, book: &Book) -> io::Result<()> {
-    for place in 0..book.link_count() {
-        let Some(link) = book.link_at(place) else {
-            return Ok(());
-        };
+    for link in (0..book.link_count()).filter_map(|place| book.link_at(place)) {
         let number = link.number;
         match book.delay(number) {
             Ok(delay) => println!(rt; "  link {number}: delay {delay} ns")?,
-            Err(refusal) => tell_refusal(rt, refusal)?,
+            Err(refusal) => println!(rt; "{refusal}")?,
         }
     }
     Ok(())
 }
 
-fn tell_refusal(rt: &HostRuntime, refusal: Refusal) -> io::Result<()> {
-    let number = refusal.number();
-    println!(rt; "refused by {number}")
-}
-
+// Shorthand of this program: in the interface the numbers of a record are named.
 fn port(number: u8, kind: PortKind, rate: u16) -> Port {
     Port { number, kind, rate }
 }
@@ -125,13 +108,4 @@ fn link(number: u16, gap: u16, shortest: u16, longest: u16) -> VirtualLink {
 
 fn hop(link: u16, port: u8, after: Option<u8>) -> Hop {
     Hop { link, port, after }
-}
-
-// A place of a load table, before anything is worked out.
-fn no_load() -> Load {
-    Load {
-        occupancy: 0,
-        gap: 0,
-        jitter: 0,
-    }
 }

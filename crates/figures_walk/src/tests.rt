@@ -25,12 +25,10 @@ fn enter_chain(
 
 #[test]
 fn a_full_port_and_an_overfull_one(rt: HostRuntime) {
-    let mut ports = [PortRow::new(port(0, PortKind::End, 0)); 2];
-    let mut links = [LinkRow {
-        link: link(0, 0, 0, 0),
-    }; 2];
-    let mut hops = [HopRow::new(hop(0, 0, None)); 2];
-    let mut loads = [no_load(); 2];
+    let mut ports = [PortRow::default(); 2];
+    let mut links = [LinkRow::default(); 2];
+    let mut hops = [HopRow::default(); 2];
+    let mut loads = [Load::default(); 2];
     let mut book = Book::open(&mut ports, &mut links, &mut hops);
     assert_eq!(rt; enter_chain(&mut book, 1, 1_250, 1_250, &[1]), Ok(()));
     assert_eq!(rt; book.port_figures(1), Err(Refusal::NoFigures));
@@ -48,12 +46,10 @@ fn a_full_port_and_an_overfull_one(rt: HostRuntime) {
 
 #[test]
 fn a_full_port_going_on(rt: HostRuntime) {
-    let mut ports = [PortRow::new(port(0, PortKind::End, 0)); 3];
-    let mut links = [LinkRow {
-        link: link(0, 0, 0, 0),
-    }; 2];
-    let mut hops = [HopRow::new(hop(0, 0, None)); 2];
-    let mut loads = [no_load(); 2];
+    let mut ports = [PortRow::default(); 3];
+    let mut links = [LinkRow::default(); 2];
+    let mut hops = [HopRow::default(); 2];
+    let mut loads = [Load::default(); 2];
     let mut book = Book::open(&mut ports, &mut links, &mut hops);
     assert_eq!(rt; enter_chain(&mut book, 1, 64, 1_250, &[1, 2]), Ok(()));
     assert_eq!(rt; book.enter_link(link(5, 128, 64, 64)), Ok(()));
@@ -72,12 +68,10 @@ fn a_full_port_going_on(rt: HostRuntime) {
 
 #[test]
 fn a_load_table_one_place_short(rt: HostRuntime) {
-    let mut ports = [PortRow::new(port(0, PortKind::End, 0)); 2];
-    let mut links = [LinkRow {
-        link: link(0, 0, 0, 0),
-    }; 1];
-    let mut hops = [HopRow::new(hop(0, 0, None)); 2];
-    let mut loads = [no_load(); 2];
+    let mut ports = [PortRow::default(); 2];
+    let mut links = [LinkRow::default(); 1];
+    let mut hops = [HopRow::default(); 2];
+    let mut loads = [Load::default(); 2];
     let mut book = Book::open(&mut ports, &mut links, &mut hops);
     assert_eq!(rt; enter_chain(&mut book, 1, 64, 1_250, &[1, 2]), Ok(()));
     assert_eq!(rt; book.work_out(&Forward, &mut loads), Ok(()));
@@ -91,12 +85,10 @@ fn a_load_table_one_place_short(rt: HostRuntime) {
 
 #[test]
 fn ports_in_a_ring(rt: HostRuntime) {
-    let mut ports = [PortRow::new(port(0, PortKind::End, 0)); 5];
-    let mut links = [LinkRow {
-        link: link(0, 0, 0, 0),
-    }; 3];
-    let mut hops = [HopRow::new(hop(0, 0, None)); 7];
-    let mut loads = [no_load(); 7];
+    let mut ports = [PortRow::default(); 5];
+    let mut links = [LinkRow::default(); 3];
+    let mut hops = [HopRow::default(); 7];
+    let mut loads = [Load::default(); 7];
     let mut book = Book::open(&mut ports, &mut links, &mut hops);
     assert_eq!(rt; book.enter_port(port(1, PortKind::End, 100)), Ok(()));
     assert_eq!(rt; book.enter_port(port(2, PortKind::End, 100)), Ok(()));
@@ -123,12 +115,10 @@ fn ports_in_a_ring(rt: HostRuntime) {
 // Each further full port nearly doubles the departure: the fourteenth passes 10 s.
 #[test]
 fn figures_past_the_limit(rt: HostRuntime) {
-    let mut ports = [PortRow::new(port(0, PortKind::End, 0)); 29];
-    let mut links = [LinkRow {
-        link: link(0, 0, 0, 0),
-    }; 2];
-    let mut hops = [HopRow::new(hop(0, 0, None)); 29];
-    let mut loads = [no_load(); 29];
+    let mut ports = [PortRow::default(); 29];
+    let mut links = [LinkRow::default(); 2];
+    let mut hops = [HopRow::default(); 29];
+    let mut loads = [Load::default(); 29];
     let mut book = Book::open(&mut ports, &mut links, &mut hops);
     let thirteen = [60, 61, 62, 63, 64, 65, 66, 67, 68, 69, 70, 71, 72];
     assert_eq!(rt; enter_chain(&mut book, 2, 64, 1_250, &thirteen), Ok(()));

@@ -1,5 +1,5 @@
 -- Gathering the loads of a port.
-use Rattle.std.proofs.Common.{◌≡◌, ℕ, ◌+◌, ◌<◌, ◌≤◌, true, cond, eqb, List, [], ◌∷◌, ◌++◌, map, length, get_or, take, drop, set, Some, None, filter, sym, refl, ap, ◌∙◌, subst, inl, inr, arith}
+use Rattle.std.proofs.Common.{◌≡◌, ℕ, ◌+◌, ◌<◌, ◌≤◌, true, cond, eqb, List, [], ◌∷◌, ◌++◌, map, length, get_or, take, drop, set, Some, None, Option, MatchOption, filter, sym, refl, ap, ◌∙◌, subst, inl, inr, arith}
 use Rattle.std.specs.List.{AllByRecursion, AllWithin, HoldsAt}
 use Rattle.working_out.specs.declared.rows.PortRow.{PortRow}
 use Rattle.std.proofs.lemmas.List.{take_more_set, map-append, append-nil, take_all, drop_more, take-append-drop}
@@ -19,16 +19,21 @@ use Rattle.working_out.specs.Keys.{number_before, link_key}
 use Rattle.working_out.specs.Gathering.{link_under, row_load, loads_at, Gathers, FirstIs}
 use Rattle.working_out.proofs.Tabled.{links_ascend}
 
-pub link_found : (n : ℕ) (xs : List LinkRow) (row : LinkRow) → ascending (by_key number_before link_key) xs ≡ true → Getting link_key xs n (Some row)
+link_found : (n : ℕ) (xs : List LinkRow) (row : LinkRow) → ascending (by_key number_before link_key) xs ≡ true → Getting link_key xs n (Some row)
     → row.link ≡ link_under xs n
 link_found n xs row up (i, e) = sym (
     ap (link_under xs) (sym e)
     ∙ find_in (λ (l : VirtualLink). l.number) _ (map (λ (x : LinkRow). x.link) xs) (sym (links_ascend xs) ∙ up) row.link (in_map (λ (x : LinkRow). x.link) xs row i))
 
-pub link_unfound : (n : ℕ) (xs : List LinkRow) → Getting link_key xs n None
+link_unfound : (n : ℕ) (xs : List LinkRow) → Getting link_key xs n None
     → record { number = 0; gap = 0; shortest = 0; longest = 0 } ≡ link_under xs n
 link_unfound n [] none = refl
 link_unfound n (x ∷ xs) none = rw (ne_eqb x.link.number n (none x (inl refl))) (link_unfound n xs (λ y i. none y (inr i)))
+
+pub link_told : (n : ℕ) (xs : List LinkRow) → ascending (by_key number_before link_key) xs ≡ true → (o : Option LinkRow) → Getting link_key xs n o
+    → (r : LinkRow) → MatchOption o (r.link ≡ record { number = 0; gap = 0; shortest = 0; longest = 0 }) (λ x. r ≡ x) → r.link ≡ link_under xs n
+link_told n xs up (Some row) got r is = ap (λ (x : LinkRow). x.link) is ∙ link_found n xs row up got
+link_told n xs up None got r is = is ∙ link_unfound n xs got
 
 loads_more : (rs : List LinkRow) (p : Port) (hs : List HopRow) (i : ℕ) (d : HopRow) → i < length hs
     → loads_at rs p (take (i + 1) hs)

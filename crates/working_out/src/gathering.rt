@@ -21,15 +21,7 @@ pub(crate) fn byte_time(port: &Port) -> u64
 pub(crate) fn link_under(links: &Table<LinkRow>, number: u16) -> VirtualLink
     ensures { result ≡ link_under (rows links.now) number }
 {
-    match links.get(number) {
-        Some(row) => row.link,
-        None => VirtualLink {
-            number: 0,
-            gap: 0,
-            shortest: 0,
-            longest: 0,
-        },
-    }
+    links.get(number).unwrap_or_default().link
 }
 
 // The load that a hop of the link brings to the port.

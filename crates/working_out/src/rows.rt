@@ -8,9 +8,10 @@ use definitions::network::{Hop, Port, VirtualLink};
 use register::keys::Keyed;
 
 // How far a working-out has come with a port.
-#[derive(Clone, Copy, PartialEq, Eq, Debug)]
+#[derive(Clone, Copy, Default, PartialEq, Eq, Debug)]
 pub enum Progress {
     // no hop there is known to wait
+    #[default]
     Open,
     // a hop there comes after a port that is not worked out
     Waiting,
@@ -22,7 +23,7 @@ pub enum Progress {
 
 // A port, with its worst backlog in ns and its queue depth in frames. The last two are for the working-out:
 // how far it has come with the port, and whether the port that is being tried for a ring feeds it.
-#[derive(Clone, Copy)]
+#[derive(Clone, Copy, Default)]
 pub struct PortRow {
     pub port: Port,
     pub backlog: u64,
@@ -81,13 +82,13 @@ impl PortRow {
 }
 
 // A virtual link.
-#[derive(Clone, Copy)]
+#[derive(Clone, Copy, Default)]
 pub struct LinkRow {
     pub link: VirtualLink,
 }
 
 // A hop, with the earliest and the latest arrival of a frame there, in ns after its release.
-#[derive(Clone, Copy)]
+#[derive(Clone, Copy, Default)]
 pub struct HopRow {
     pub hop: Hop,
     pub earliest: u64,
