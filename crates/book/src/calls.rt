@@ -25,6 +25,8 @@ pub const MOST_LINKS: usize = 4_096;
 
 pub const MOST_HOPS: usize = 16_384;
 
+// A call with several exits stands twice: a private function has its outcome, and the public one around it adds the run, so
+// that what a list of calls comes to is proved once and not at each exit.
 impl<'a> Book<'a> {
     // An empty book over the tables; it never refuses.
     pub fn open(
@@ -52,6 +54,8 @@ impl<'a> Book<'a> {
         self.add_port(port)
     }
 
+    // The three kinds of records are put in alike; in one function for all, the tests, the limit and both refusals would be
+    // arguments.
     fn add_port(&mut self, port: Port) -> Result<(), Refusal>
         ensures { Doing (entry_ground (places self.old) (records self.old) (port_entry port)) (entered (records self.old) (port_entry port)) self.old self.new result }
     {
@@ -269,6 +273,7 @@ fn has_known_rate(port: &Port) -> bool
     port.rate == 10 || port.rate == 100
 }
 
+// In ms; of a load it is in ns.
 fn has_known_gap(link: &VirtualLink) -> bool
     ensures { result ≡ gap_known link.now }
 {

@@ -5,7 +5,8 @@ ghost use Rattle.register.specs.Orders.{by_key};
 
 use crate::keys::Keyed;
 
-// Records over lent places: the first `len` places are in use, and their keys ascend.
+// Records over lent places, since no memory is taken from the heap: the first `len` places are in use, and their keys
+// ascend.
 #[derive(Drop)]
 pub struct Table<'a, R: Keyed> {
     pub(crate) places: &'a mut [R],

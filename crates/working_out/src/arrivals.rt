@@ -57,7 +57,10 @@ fn pass(ports: &mut Table<PortRow>, links: &Table<LinkRow>, hops: &mut Table<Hop
             };
             let _ = hops.replace(place, arrived);
         }
-        None => edit_under(ports, row.hop.port, |port| port.held_up()),
+        None => edit_under(ports, row.hop.port, |port| match port.progress {
+            Progress::Open => port.at(Progress::Waiting),
+            _ => port,
+        }),
     }
 }
 

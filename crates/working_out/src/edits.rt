@@ -1,5 +1,5 @@
-// Changes of rows that leave their keys as they are. A row is read and replaced, so that its key is compared: a table
-// hands out no row that could be changed in place.
+// Changes of rows that leave their keys as they are. A row is read at its place and replaced, so that its key is compared: a
+// table hands out no row that could be changed in place, since its keys ascend.
 ghost use Rattle.std.specs.Prelude.{◌≡◌};
 ghost use Rattle.working_out.specs.Edits.{EditsAll, EditsUnder};
 

@@ -35,7 +35,8 @@ fn load_of(port: &Port, link: VirtualLink, row: &HopRow) -> Load
     }
 }
 
-// Writes the loads of the port from the first place of `loads`, and tells how many there are.
+// Writes the loads of the port from the first place of `loads`, and tells how many there are. The table of loads is lent,
+// and only some hops bring a load, so that it is written by place.
 pub(crate) fn gather(
     links: &Table<LinkRow>,
     hops: &[HopRow],

@@ -78,9 +78,7 @@ pub(crate) fn first_in_ring(ports: &mut Table<PortRow>, hops: &[HopRow]) -> Opti
 {
     // by place, since the rows change on the way
     for place in 0..ports.count() {
-        let Some(row) = ports.at(place) else {
-            return None;
-        };
+        let row = ports.at(place)?;
         if feeds_itself(ports, hops, row.port.number) {
             return Some(row.port.number);
         }

@@ -1,7 +1,7 @@
 // The rows of the tables: records with their figures.
 ghost use Rattle.std.specs.Prelude.{◌≡◌};
 ghost use Rattle.working_out.specs.Rows.{bare_port, bare_hop};
-ghost use Rattle.working_out.specs.Marks.{opened, held_up, marked as at_progress};
+ghost use Rattle.working_out.specs.Marks.{marked as at_progress};
 ghost use Rattle.working_out.specs.Rings.{marked};
 
 use definitions::network::{Hop, Port, VirtualLink};
@@ -21,8 +21,9 @@ pub enum Progress {
     PastLimit,
 }
 
-// A port, with its worst backlog in ns and its queue depth in frames. The last two are for the working-out:
-// how far it has come with the port, and whether the port that is being tried for a ring feeds it.
+// A port, with its worst backlog in ns and its queue depth in frames, both 0 while they are not worked out: in the case
+// `WorkedOut` of `progress` each reader would need an arm that tells 0. The last two are for the working-out: how far it
+// has come with the port, and whether the port that is being tried for a ring feeds it.
 #[derive(Clone, Copy, Default)]
 pub struct PortRow {
     pub port: Port,
@@ -43,26 +44,6 @@ impl PortRow {
             depth: 0,
             progress: Progress::Open,
             fed: false,
-        }
-    }
-
-    // This row, open again where it waits.
-    pub(crate) fn reopened(self) -> PortRow
-        ensures { result ≡ opened self }
-    {
-        match self.progress {
-            Progress::Waiting => self.at(Progress::Open),
-            _ => self,
-        }
-    }
-
-    // This row, waiting where it is open.
-    pub(crate) fn held_up(self) -> PortRow
-        ensures { result ≡ held_up self }
-    {
-        match self.progress {
-            Progress::Open => self.at(Progress::Waiting),
-            _ => self,
         }
     }
 

@@ -1,4 +1,6 @@
-// Rounds in which the figures of one port after another are worked out.
+// Rounds in which the figures of one port after another are worked out. Tables, method and loads are passed one by one and
+// not as one struct: so a signature says what a step may change, the links never and the hops only between rounds. That the
+// loads have a place for every hop is a fact of two parameters, and so a `requires`.
 ghost use Rattle.std.specs.Prelude.{◌≡◌, ◌≤◌, List, length};
 ghost use Rattle.definitions.specs.Network.{Records};
 ghost use Rattle.register.specs.Tables.{rows, room};
@@ -89,7 +91,10 @@ fn round<M: Method>(
     ensures same_count { length (rows hops.new) ≡ length (rows hops.old) }
     ensures makes { (r : Records) → Setting r (M.Method.worth method.now) → Worked r (M.Method.worth method.now) (rows ports.old) (rows links.now) (rows hops.old) → RoundMakes r (M.Method.worth method.now) (rows links.now) (rows ports.old) (rows hops.old) (rows ports.new) (rows hops.new) result }
 {
-    edit_all(ports, |row| row.reopened());
+    edit_all(ports, |row| match row.progress {
+        Progress::Waiting => row.at(Progress::Open),
+        _ => row,
+    });
     advance(ports, links, hops);
     settle_open(ports, links, hops.all(), method, loads)
 }
