@@ -2,7 +2,7 @@
 --
 --   rows t               the records that the table holds
 --   room t               how many places it has
---   Ordered lt key t     the keys of the table ascend, so none stands twice
+--   TableBy lt key       the tables whose records are in the order lt of their keys
 --   Found lt key rs k r  where a key stands, or where it would stand
 --   Within n r           a place that was found is one of n, or, if it is not taken, at most the place after them
 --   Starts lt key rs k i the place from which on no key is before k
@@ -11,11 +11,11 @@
 --   Replacing            what putting a record at a place answers and leaves
 --   Removing             what removing the records from one place to before another answers and leaves
 --
--- The keys of every table ascend (`Table` in src/tables.rt): `t.ascends` is `Ordered`.
+-- The keys of every table ascend, so that none stands twice: that is `ascends` of its type (src/tables.rt).
 
 use Rattle.std.specs.Prelude.{◌≡◌, ℕ, ◌<◌, ◌≤◌, min, Bool, true, false, List, ◌++◌, length, take, drop, Some, None, Ok, Err, Option, Result, slice_index_or, slice_set}
 use Rattle.std.specs.List.{AllByRecursion}
-use Rattle.definitions.specs.Lists.{In, ascending}
+use Rattle.definitions.specs.Lists.{In}
 use Rattle.definitions.specs.Entries.{placed}
 pub use Rattle.register.specs.Orders.{by_key}
 use Rattle.register.specs.declared.keys.Key.{Ghosts as KeyGhosts}
@@ -49,9 +49,6 @@ module _ {R K : Type 0} {keyed : KeyedGhosts R K} {order : KeyGhosts K} where
   abbrev pub room : Table R K keyed order → ℕ
   room t = length t.places.now
 
-  abbrev pub Ordered : (K → K → Bool) → (R → K) → Table R K keyed order → Type 0
-  Ordered lt key t = ascending (by_key lt key) (rows t) ≡ true
-
 module _ {R K : Type 0} {keyed : KeyedGhosts R K} {order : KeyGhosts K} (lt : K → K → Bool) (key : R → K) where
   -- a table is full when it holds as many records as it has places, or as many as it may hold
   abbrev pub Inserting : ℕ → R → Table R K keyed order → Table R K keyed order → Result (Unit {0}) NotInserted → Type 0
@@ -71,6 +68,6 @@ module _ {R K : Type 0} {keyed : KeyedGhosts R K} {order : KeyGhosts K} (lt : K 
       (room u ≡ room t) × (from ≤ to) × (to ≤ length (rows t)) × (rows u ≡ take from (rows t) ++ drop to (rows t))
   Removing from to t u false = (u ≡ t) × ¬ ((from ≤ to) × (to ≤ length (rows t)))
 
--- the tables of records that are kept in order by their keys
+-- the tables of records by this order and this key
 abbrev pub TableBy : {R K : Type 0} → (K → K → Bool) → (R → K) → Type 0
 TableBy {R} {K} lt key = Table R K record { key = key } record { before = lt }
