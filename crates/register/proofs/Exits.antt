@@ -1,10 +1,10 @@
 -- What each exit of a call on a table leaves.
-use Rattle.std.proofs.Common.{◌≡◌, ℕ, ◌-◌, ◌<◌, ◌≤◌, Bool, true, false, List, ◌++◌, length, get_or, take, drop, set, Some, None, Ok, Err, Option, Ordering, Less, Equal, Greater, sym, ap, ◌∙◌, subst, inl, inr, arith, length-take}
+use Rattle.std.proofs.Common.{◌≡◌, ℕ, ◌-◌, ◌<◌, ◌≤◌, Bool, true, false, List, ◌++◌, length, get_or, take, drop, set, Some, Ok, Err, Ordering, Less, Equal, Greater, sym, ap, ◌∙◌, subst, arith, length-take}
 use lib.Seq.{take-set-lt}
 use Rattle.std.specs.List.{AllByRecursion, insert, slice_get}
 use Rattle.std.specs.Ordering.{is_ne}
-use Rattle.std.proofs.lemmas.Option.{slice_get-get_or, slice_get_past}
-use Rattle.std.proofs.lemmas.Bool.{cases_lt, true≢false}
+use Rattle.std.proofs.lemmas.Option.{get_or_from_slice_get}
+use Rattle.std.proofs.lemmas.Bool.{true≢false}
 use Rattle.std.proofs.lemmas.List.{length-take-le, take-append-le}
 use Rattle.definitions.specs.Lists.{In, ascending}
 use Rattle.definitions.specs.Entries.{placed}
@@ -38,34 +38,16 @@ module _ {R K : Type 0} (lt : K → K → Bool) (key : R → K) (one : (a b : K)
 
 -- ## Replacing
 
-some_same : {X : Type 0} (o : Option X) (a b : X) → o ≡ Some a → o ≡ Some b → a ≡ b
-some_same o a b p q = cc
-
-none_some : {X : Type 0} (o : Option X) (a : X) → o ≡ None → o ≡ Some a → ⊥
-none_some o a p q = let z : ◌≡◌ {A = ℕ} 0 1 = cc in omega arith
-
-pub some_within : {X : Type 0} (xs : List X) (i : ℕ) (a : X) → Some a ≡ slice_get xs i → i < length xs
-some_within xs i a e = elim (cases_lt i (length xs)) [
-  | inl l ↦ l
-  | inr g ↦ absurd (none_some (slice_get xs i) a (slice_get_past xs i g) (sym e))
-]
-
-pub no_record : {X : Type 0} (xs : List X) (i : ℕ) (d : X) → None ≡ slice_get xs i → i < length xs → ⊥
-no_record xs i d e l = none_some (slice_get xs i) (get_or xs i d) (sym e) (slice_get-get_or xs i d l)
-
-some_read : {X : Type 0} (xs : List X) (i : ℕ) (a d : X) → Some a ≡ slice_get xs i → get_or xs i d ≡ a
-some_read xs i a d e = some_same (slice_get xs i) (get_or xs i d) a (slice_get-get_or xs i d (some_within xs i a e)) (sym e)
-
 module _ {R K : Type 0} (lt : K → K → Bool) (key : R → K) (one : (a b : K) → ExactlyOne (lt a b ≡ true) (a ≡ b) (lt b a ≡ true))
     (rs : List R) (i : ℕ) (x old : R) (b : K) (there : Some old ≡ slice_get rs i) (b-is : b ≡ key x) (o : Ordering) (stands : o ≡ compare lt (key old) b) where
   pub other_key : is_ne o ≡ true → ¬ (key (get_or rs i x) ≡ key x)
   other_key ne e =
-      let same : key old ≡ b = ap key (sym (some_read rs i old x there)) ∙ e ∙ sym b-is in
+      let same : key old ≡ b = ap key (sym (get_or_from_slice_get rs i old x (sym there))) ∙ e ∙ sym b-is in
       let equal : o ≡ Equal = stands ∙ sym (compare_is lt one (key old) b Equal same) in
       true≢false (sym ne ∙ ap is_ne equal)
 
   pub same_key : is_ne o ≡ false → key (get_or rs i x) ≡ key x
-  same_key eq = ap key (some_read rs i old x there) ∙ go o eq stands
+  same_key eq = ap key (get_or_from_slice_get rs i old x (sym there)) ∙ go o eq stands
     where
       go : (o : Ordering) → is_ne o ≡ false → o ≡ compare lt (key old) b → key old ≡ key x
       go Less eq s = absurd (true≢false eq)

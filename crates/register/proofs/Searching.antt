@@ -5,7 +5,7 @@ use Rattle.std.specs.List.Sorted.{IsSearchInRange, IsBinarySearchResult, IsNonDe
 use Rattle.std.specs.Ordering.{MatchOrdering, ordering_index, is_lt}
 use Rattle.std.specs.Result.{result_ok}
 use Rattle.std.proofs.lemmas.Bool.{and_parts, cond-true, cond-false, cases_lt, cases_Bool}
-use Rattle.std.proofs.lemmas.Option.{slice_get-get_or}
+use Rattle.std.proofs.lemmas.Option.{slice_get-get_or, none-some}
 use Rattle.definitions.specs.Lists.{every, ascending}
 use Rattle.register.specs.Orders.{ExactlyOne, by_key, compare}
 use Rattle.register.specs.Tables.{Found, Starts, Getting}
@@ -136,21 +136,18 @@ module _ {R K : Type 0} (lt : K → K → Bool) (key : R → K) (one : (a b : K)
 
 -- ## What a place that was found, or was not, says of the record under the key
 
-some_none : (i : ℕ) → ¬ (◌≡◌ {A = Option ℕ} (Some i) None)
-some_none i e = let z : ◌≡◌ {A = ℕ} 0 1 = cc in omega arith
-
-some_is : (i j : ℕ) → Some i ≡ Some j → i ≡ j
-some_is i j e = cc
-
 module _ {R K : Type 0} (lt : K → K → Bool) (key : R → K) (rs : List R) (k : K) where
   pub got : (r : Result ℕ ℕ) → Found lt key rs k r → (i : ℕ) → Some i ≡ result_ok r → (o : Option R) → o ≡ slice_get rs i → Getting key rs k o
-  got (Ok j) f i s o e = subst (Getting key rs k) (sym (e ∙ ap (slice_get rs) (some_is i j s))) (at_place rs j f)
+  got (Ok j) f i s o e = subst (Getting key rs k) (sym (e ∙ ap (slice_get rs) (same i j s))) (at_place rs j f)
     where
+      same : (a b : ℕ) → Some a ≡ Some b → a ≡ b
+      same a b e = cc
+
       at_place : (xs : List R) (i : ℕ) → Found lt key xs k (Ok i) → Getting key xs k (slice_get xs i)
       at_place [] i f = absurd (omega (arith, f.0))
       at_place (y ∷ ys) i f = subst (Getting key (y ∷ ys) k) (sym (slice_get-get_or (y ∷ ys) i y f.0)) (getD_in (y ∷ ys) i y f.0, f.1 y)
-  got (Err j) f i s o e = absurd (some_none i s)
+  got (Err j) f i s o e = absurd (none-some i (sym s))
 
   pub got_none : (one : (a b : K) → ExactlyOne (lt a b ≡ true) (a ≡ b) (lt b a ≡ true)) (r : Result ℕ ℕ) → Found lt key rs k r → None ≡ result_ok r → Getting key rs k None
-  got_none one (Ok j) f s = absurd (some_none j (sym s))
+  got_none one (Ok j) f s = absurd (none-some j s)
   got_none one (Err j) f s = none_under lt one key k rs j f.1 f.2

@@ -1,13 +1,14 @@
 use Rattle.std.proofs.Common.{refl, sym, ap, ◌∙◌, arith, rules, length-take, length-set}
+use Rattle.std.proofs.lemmas.Option.{slice_get_within, slice_get-get_or, none-some}
 use Rattle.definitions.specs.Lists.{ascending}
 use Rattle.register.specs.Orders.{by_key}
 use Rattle.register.specs.Tables.{rows}
-use Rattle.register.proofs.Exits.{some_within, no_record, other_key, same_key, rows_set}
+use Rattle.register.proofs.Exits.{other_key, same_key, rows_set}
 use Rattle.register.proofs.Sorted.{set_ascends}
 use Rattle.register.proofs.tables.Table.replace.Goals as goal
 
 pub returns-in_default : goal.returns-in_default
-returns-in_default g c = (refl, λ l. absurd (no_record (rows c.args.self.now) c.args.place c.args.record c.in_default.ensures l))
+returns-in_default g c = (refl, λ l. absurd (none-some _ (c.in_default.ensures ∙ slice_get-get_or (rows c.args.self.now) c.args.place c.args.record l)))
 
 pub returns-then-is_ne : goal.returns-then-is_ne
 returns-then-is_ne g c = (
@@ -18,7 +19,7 @@ returns-then-is_ne g c = (
 
 pub bounds-self-place : goal.bounds-self-place
 bounds-self-place g c =
-    let l = some_within _ c.args.place c.in-Some.old c.in-Some.ensures in
+    let l = slice_get_within _ c.args.place c.in-Some.old (sym c.in-Some.ensures) in
     omega (arith, length-take c.args.self.now.len c.args.self.now.places.now)
 
 pub invariant_of-self-clause-ascends : goal.invariant_of-self-clause-ascends
@@ -26,13 +27,13 @@ invariant_of-self-clause-ascends g c =
     let t = c.args.self.now in
     let same = same_key g.R.K.Key.before g.R.Keyed.key g.met.R.K.Key.trichotomy (rows t) c.args.place c.args.record c.in-Some.old c.key.result
     c.in-Some.ensures c.key.ensures c.stands.result c.stands.ensures (sym c.is_ne.ensures ∙ c.if-is_ne.false) in
-    ap (ascending (by_key g.R.K.Key.before g.R.Keyed.key)) (rows_set t.places.now t.len c.args.place c.args.record (some_within (rows t) c.args.place c.in-Some.old c.in-Some.ensures))
+    ap (ascending (by_key g.R.K.Key.before g.R.Keyed.key)) (rows_set t.places.now t.len c.args.place c.args.record (slice_get_within (rows t) c.args.place c.in-Some.old (sym c.in-Some.ensures)))
     ∙ set_ascends g.R.K.Key.before g.R.Keyed.key (rows t) c.args.place c.args.record same ∙ t.ascends
 
 pub returns : goal.returns
 returns g c =
     let t = c.args.self.now in
-    let within = some_within (rows t) c.args.place c.in-Some.old c.in-Some.ensures in
+    let within = slice_get_within (rows t) c.args.place c.in-Some.old (sym c.in-Some.ensures) in
     let same = same_key g.R.K.Key.before g.R.Keyed.key g.met.R.K.Key.trichotomy (rows t) c.args.place c.args.record c.in-Some.old c.key.result
     c.in-Some.ensures c.key.ensures c.stands.result c.stands.ensures (sym c.is_ne.ensures ∙ c.if-is_ne.false) in
     (length-set t.places.now c.args.place c.args.record, within, same, rows_set t.places.now t.len c.args.place c.args.record within)
