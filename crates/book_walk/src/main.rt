@@ -24,32 +24,32 @@ fn enter_ports(rt: &HostRuntime, book: &mut Book) -> io::Result<()> {
     say(
         rt,
         "port 1 E 100",
-        book.enter_port(port(1, PortKind::End, 100)),
+        book.enter_port(Port::new(1, PortKind::End, 100)),
     )?;
     say(
         rt,
         "port 2 E 100",
-        book.enter_port(port(2, PortKind::End, 100)),
+        book.enter_port(Port::new(2, PortKind::End, 100)),
     )?;
     say(
         rt,
         "port 3 S 1000",
-        book.enter_port(port(3, PortKind::Switch, 1000)),
+        book.enter_port(Port::new(3, PortKind::Switch, 1000)),
     )?;
     say(
         rt,
         "port 2 S 10",
-        book.enter_port(port(2, PortKind::Switch, 10)),
+        book.enter_port(Port::new(2, PortKind::Switch, 10)),
     )?;
     say(
         rt,
         "port 3 S 100",
-        book.enter_port(port(3, PortKind::Switch, 100)),
+        book.enter_port(Port::new(3, PortKind::Switch, 100)),
     )?;
     say(
         rt,
         "port 4 S 100",
-        book.enter_port(port(4, PortKind::Switch, 100)),
+        book.enter_port(Port::new(4, PortKind::Switch, 100)),
     )
 }
 
@@ -57,66 +57,74 @@ fn enter_links(rt: &HostRuntime, book: &mut Book) -> io::Result<()> {
     say(
         rt,
         "link 20 gap 4, 64 to 1000",
-        book.enter_link(link(20, 4, 64, 1_000)),
+        book.enter_link(VirtualLink::new(20, 4, 64, 1_000)),
     )?;
     say(
         rt,
         "link 10 gap 3, 64 to 500",
-        book.enter_link(link(10, 3, 64, 500)),
+        book.enter_link(VirtualLink::new(10, 3, 64, 500)),
     )?;
     say(
         rt,
         "link 10 gap 2, 63 to 500",
-        book.enter_link(link(10, 2, 63, 500)),
+        book.enter_link(VirtualLink::new(10, 2, 63, 500)),
     )?;
     say(
         rt,
         "link 10 gap 2, 64 to 1519",
-        book.enter_link(link(10, 2, 64, 1_519)),
+        book.enter_link(VirtualLink::new(10, 2, 64, 1_519)),
     )?;
     say(
         rt,
         "link 20 gap 2, 64 to 1518",
-        book.enter_link(link(20, 2, 64, 1_518)),
+        book.enter_link(VirtualLink::new(20, 2, 64, 1_518)),
     )?;
     say(
         rt,
         "link 10 gap 2, 64 to 1518",
-        book.enter_link(link(10, 2, 64, 1_518)),
+        book.enter_link(VirtualLink::new(10, 2, 64, 1_518)),
     )?;
     say(
         rt,
         "link 30 gap 2, 64 to 500",
-        book.enter_link(link(30, 2, 64, 500)),
+        book.enter_link(VirtualLink::new(30, 2, 64, 500)),
     )
 }
 
 fn enter_hops(rt: &HostRuntime, book: &mut Book) -> io::Result<()> {
-    say(rt, "hop 10 at 1", book.enter_hop(hop(10, 1, None)))?;
-    say(rt, "hop 30 at 1", book.enter_hop(hop(30, 1, None)))?;
-    say(rt, "hop 10 at 9", book.enter_hop(hop(10, 9, None)))?;
-    say(rt, "hop 10 at 1 again", book.enter_hop(hop(10, 1, None)))?;
-    say(rt, "hop 10 at 3, first", book.enter_hop(hop(10, 3, None)))?;
+    say(rt, "hop 10 at 1", book.enter_hop(Hop::new(10, 1, None)))?;
+    say(rt, "hop 30 at 1", book.enter_hop(Hop::new(30, 1, None)))?;
+    say(rt, "hop 10 at 9", book.enter_hop(Hop::new(10, 9, None)))?;
+    say(
+        rt,
+        "hop 10 at 1 again",
+        book.enter_hop(Hop::new(10, 1, None)),
+    )?;
+    say(
+        rt,
+        "hop 10 at 3, first",
+        book.enter_hop(Hop::new(10, 3, None)),
+    )?;
     say(
         rt,
         "hop 10 at 2, first too",
-        book.enter_hop(hop(10, 2, None)),
+        book.enter_hop(Hop::new(10, 2, None)),
     )?;
     say(
         rt,
         "hop 10 at 3 after 2",
-        book.enter_hop(hop(10, 3, Some(2))),
+        book.enter_hop(Hop::new(10, 3, Some(2))),
     )?;
     say(
         rt,
         "hop 10 at 3 after 1",
-        book.enter_hop(hop(10, 3, Some(1))),
+        book.enter_hop(Hop::new(10, 3, Some(1))),
     )?;
-    say(rt, "hop 20 at 2", book.enter_hop(hop(20, 2, None)))?;
+    say(rt, "hop 20 at 2", book.enter_hop(Hop::new(20, 2, None)))?;
     say(
         rt,
         "hop 20 at 3 after 2",
-        book.enter_hop(hop(20, 3, Some(2))),
+        book.enter_hop(Hop::new(20, 3, Some(2))),
     )
 }
 
@@ -128,14 +136,14 @@ fn remove_links(rt: &HostRuntime, book: &mut Book) -> io::Result<()> {
     say(
         rt,
         "hop 20 at 3 after 2",
-        book.enter_hop(hop(20, 3, Some(2))),
+        book.enter_hop(Hop::new(20, 3, Some(2))),
     )?;
     say(
         rt,
         "link 30 gap 1, 64 to 64",
-        book.enter_link(link(30, 1, 64, 64)),
+        book.enter_link(VirtualLink::new(30, 1, 64, 64)),
     )?;
-    say(rt, "hop 30 at 1", book.enter_hop(hop(30, 1, None)))?;
+    say(rt, "hop 30 at 1", book.enter_hop(Hop::new(30, 1, None)))?;
     tell(rt, book)
 }
 
@@ -162,24 +170,6 @@ fn tell(rt: &HostRuntime, book: &Book) -> io::Result<()> {
     Ok(())
 }
 
-// Shorthand of this program: in the interface the numbers of a record are named.
-fn port(number: u8, kind: PortKind, rate: u16) -> Port {
-    Port { number, kind, rate }
-}
-
-fn link(number: u16, gap: u16, shortest: u16, longest: u16) -> VirtualLink {
-    VirtualLink {
-        number,
-        gap,
-        shortest,
-        longest,
-    }
-}
-
-fn hop(link: u16, port: u8, after: Option<u8>) -> Hop {
-    Hop { link, port, after }
-}
-
 #[cfg(test)]
 mod tests {
     use super::*;
@@ -191,14 +181,17 @@ mod tests {
         let mut hops: [HopRow; 0] = [];
         let mut book = Book::open(&mut ports, &mut links, &mut hops);
         assert_eq!(rt;
-            book.enter_port(port(1, PortKind::End, 10)),
+            book.enter_port(Port::new(1, PortKind::End, 10)),
             Err(Refusal::PortTableFull)
         );
         assert_eq!(rt;
-            book.enter_link(link(1, 1, 64, 64)),
+            book.enter_link(VirtualLink::new(1, 1, 64, 64)),
             Err(Refusal::LinkTableFull)
         );
-        assert_eq!(rt; book.enter_hop(hop(1, 1, None)), Err(Refusal::LinkUnknown));
+        assert_eq!(rt;
+            book.enter_hop(Hop::new(1, 1, None)),
+            Err(Refusal::LinkUnknown)
+        );
         assert_eq!(rt; book.port_at(0), None);
     }
 
@@ -209,14 +202,20 @@ mod tests {
         let mut hops = [HopRow::default(); 1];
         let mut book = Book::open(&mut ports, &mut links, &mut hops);
         for number in [7u8, 255] {
-            assert_eq!(rt; book.enter_port(port(number, PortKind::End, 10)), Ok(()));
-            assert_eq!(rt; book.enter_link(link(65_535, 128, 64, 1_518)), Ok(()));
-            assert_eq!(rt; book.enter_hop(hop(65_535, number, None)), Ok(()));
             assert_eq!(rt;
-                book.enter_port(port(1, PortKind::End, 10)),
+                book.enter_port(Port::new(number, PortKind::End, 10)),
+                Ok(())
+            );
+            assert_eq!(rt;
+                book.enter_link(VirtualLink::new(65_535, 128, 64, 1_518)),
+                Ok(())
+            );
+            assert_eq!(rt; book.enter_hop(Hop::new(65_535, number, None)), Ok(()));
+            assert_eq!(rt;
+                book.enter_port(Port::new(1, PortKind::End, 10)),
                 Err(Refusal::PortTableFull)
             );
-            assert_eq!(rt; book.hop_at(0), Some(hop(65_535, number, None)));
+            assert_eq!(rt; book.hop_at(0), Some(Hop::new(65_535, number, None)));
             book.clear();
             assert_eq!(rt; book.hop_count(), 0);
         }

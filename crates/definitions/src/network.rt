@@ -1,3 +1,5 @@
+ghost use Rattle.std.specs.Prelude.{◌≡◌};
+
 // The records of a network: output ports, virtual links and the hops of links at ports.
 // A value of these types may break the rules; a book takes only what keeps them.
 
@@ -18,6 +20,14 @@ pub struct Port {
     pub rate: u16,
 }
 
+impl Port {
+    pub fn new(number: u8, kind: PortKind, rate: u16) -> Port
+        ensures { result ≡ record { number = number; kind = kind; rate = rate } }
+    {
+        Port { number, kind, rate }
+    }
+}
+
 // A virtual link, with its gap (BAG) in ms and the lengths of its frames in bytes.
 #[derive(Clone, Copy, Default, PartialEq, Eq, Debug)]
 pub struct VirtualLink {
@@ -27,10 +37,31 @@ pub struct VirtualLink {
     pub longest: u16,
 }
 
+impl VirtualLink {
+    pub fn new(number: u16, gap: u16, shortest: u16, longest: u16) -> VirtualLink
+        ensures { result ≡ record { number = number; gap = gap; shortest = shortest; longest = longest } }
+    {
+        VirtualLink {
+            number,
+            gap,
+            shortest,
+            longest,
+        }
+    }
+}
+
 // A link passes a port, after another port or, at its first hop, after none.
 #[derive(Clone, Copy, Default, PartialEq, Eq, Debug)]
 pub struct Hop {
     pub link: u16,
     pub port: u8,
     pub after: Option<u8>,
+}
+
+impl Hop {
+    pub fn new(link: u16, port: u8, after: Option<u8>) -> Hop
+        ensures { result ≡ record { link = link; port = port; after = after } }
+    {
+        Hop { link, port, after }
+    }
 }

@@ -31,15 +31,15 @@ fn main(rt: HostRuntime) -> io::Result<()> {
 
 // Two virtual links, each from an end system, that share an output port of a switch.
 fn enter_sample(book: &mut Book) -> Result<(), Refusal> {
-    book.enter_port(port(1, PortKind::End, 100))?;
-    book.enter_port(port(2, PortKind::End, 100))?;
-    book.enter_port(port(3, PortKind::Switch, 100))?;
-    book.enter_link(link(10, 2, 64, 500))?;
-    book.enter_link(link(20, 4, 64, 1_000))?;
-    book.enter_hop(hop(10, 1, None))?;
-    book.enter_hop(hop(10, 3, Some(1)))?;
-    book.enter_hop(hop(20, 2, None))?;
-    book.enter_hop(hop(20, 3, Some(2)))
+    book.enter_port(Port::new(1, PortKind::End, 100))?;
+    book.enter_port(Port::new(2, PortKind::End, 100))?;
+    book.enter_port(Port::new(3, PortKind::Switch, 100))?;
+    book.enter_link(VirtualLink::new(10, 2, 64, 500))?;
+    book.enter_link(VirtualLink::new(20, 4, 64, 1_000))?;
+    book.enter_hop(Hop::new(10, 1, None))?;
+    book.enter_hop(Hop::new(10, 3, Some(1)))?;
+    book.enter_hop(Hop::new(20, 2, None))?;
+    book.enter_hop(Hop::new(20, 3, Some(2)))
 }
 
 fn work_out<M: Method>(
@@ -90,22 +90,4 @@ fn tell_delays(rt: &HostRuntime, book: &Book) -> io::Result<()> {
         }
     }
     Ok(())
-}
-
-// Shorthand of this program: in the interface the numbers of a record are named.
-fn port(number: u8, kind: PortKind, rate: u16) -> Port {
-    Port { number, kind, rate }
-}
-
-fn link(number: u16, gap: u16, shortest: u16, longest: u16) -> VirtualLink {
-    VirtualLink {
-        number,
-        gap,
-        shortest,
-        longest,
-    }
-}
-
-fn hop(link: u16, port: u8, after: Option<u8>) -> Hop {
-    Hop { link, port, after }
 }

@@ -9,15 +9,15 @@ fn enter_chain(
     longest: u16,
     ports: &[u8],
 ) -> Result<(), Refusal> {
-    book.enter_link(link(number, 1, shortest, longest))?;
+    book.enter_link(VirtualLink::new(number, 1, shortest, longest))?;
     let mut before = None;
     for at in ports {
         let kind = match before {
             None => PortKind::End,
             Some(_) => PortKind::Switch,
         };
-        book.enter_port(port(*at, kind, 10))?;
-        book.enter_hop(hop(number, *at, before))?;
+        book.enter_port(Port::new(*at, kind, 10))?;
+        book.enter_hop(Hop::new(number, *at, before))?;
         before = Some(*at);
     }
     Ok(())
@@ -52,8 +52,11 @@ fn a_full_port_going_on(rt: HostRuntime) {
     let mut loads = [Load::default(); 2];
     let mut book = Book::open(&mut ports, &mut links, &mut hops);
     assert_eq!(rt; enter_chain(&mut book, 1, 64, 1_250, &[1, 2]), Ok(()));
-    assert_eq!(rt; book.enter_link(link(5, 128, 64, 64)), Ok(()));
-    assert_eq!(rt; book.enter_port(port(9, PortKind::Switch, 100)), Ok(()));
+    assert_eq!(rt; book.enter_link(VirtualLink::new(5, 128, 64, 64)), Ok(()));
+    assert_eq!(rt;
+        book.enter_port(Port::new(9, PortKind::Switch, 100)),
+        Ok(())
+    );
     assert_eq!(rt; book.work_out(&Forward, &mut loads), Ok(()));
     assert_eq!(rt; book.port_figures(2), Ok((1_948_800, 3)));
     assert_eq!(rt; book.hop_figures(1, 2), Ok((67_200, 1_016_000, 2_964_800)));
@@ -90,15 +93,30 @@ fn ports_in_a_ring(rt: HostRuntime) {
     let mut hops = [HopRow::default(); 7];
     let mut loads = [Load::default(); 7];
     let mut book = Book::open(&mut ports, &mut links, &mut hops);
-    assert_eq!(rt; book.enter_port(port(1, PortKind::End, 100)), Ok(()));
-    assert_eq!(rt; book.enter_port(port(2, PortKind::End, 100)), Ok(()));
-    assert_eq!(rt; book.enter_port(port(3, PortKind::Switch, 100)), Ok(()));
-    assert_eq!(rt; book.enter_port(port(4, PortKind::Switch, 100)), Ok(()));
+    assert_eq!(rt; book.enter_port(Port::new(1, PortKind::End, 100)), Ok(()));
+    assert_eq!(rt; book.enter_port(Port::new(2, PortKind::End, 100)), Ok(()));
+    assert_eq!(rt;
+        book.enter_port(Port::new(3, PortKind::Switch, 100)),
+        Ok(())
+    );
+    assert_eq!(rt;
+        book.enter_port(Port::new(4, PortKind::Switch, 100)),
+        Ok(())
+    );
     for (number, first, second, third) in [(1u16, 1u8, 3u8, 4u8), (2, 2, 4, 3)] {
-        assert_eq!(rt; book.enter_link(link(number, 8, 64, 200)), Ok(()));
-        assert_eq!(rt; book.enter_hop(hop(number, first, None)), Ok(()));
-        assert_eq!(rt; book.enter_hop(hop(number, second, Some(first))), Ok(()));
-        assert_eq!(rt; book.enter_hop(hop(number, third, Some(second))), Ok(()));
+        assert_eq!(rt;
+            book.enter_link(VirtualLink::new(number, 8, 64, 200)),
+            Ok(())
+        );
+        assert_eq!(rt; book.enter_hop(Hop::new(number, first, None)), Ok(()));
+        assert_eq!(rt;
+            book.enter_hop(Hop::new(number, second, Some(first))),
+            Ok(())
+        );
+        assert_eq!(rt;
+            book.enter_hop(Hop::new(number, third, Some(second))),
+            Ok(())
+        );
     }
     assert_eq!(rt;
         book.work_out(&Forward, &mut loads),
@@ -125,8 +143,11 @@ fn figures_past_the_limit(rt: HostRuntime) {
     assert_eq!(rt; book.work_out(&Forward, &mut loads), Ok(()));
     assert_eq!(rt; book.delay(2), Ok(7_772_478_400));
     // the fourteenth
-    assert_eq!(rt; book.enter_port(port(73, PortKind::Switch, 10)), Ok(()));
-    assert_eq!(rt; book.enter_hop(hop(2, 73, Some(72))), Ok(()));
+    assert_eq!(rt;
+        book.enter_port(Port::new(73, PortKind::Switch, 10)),
+        Ok(())
+    );
+    assert_eq!(rt; book.enter_hop(Hop::new(2, 73, Some(72))), Ok(()));
     assert_eq!(rt;
         book.work_out(&Forward, &mut loads),
         Err(Refusal::FigurePastLimit { port: 73 })
