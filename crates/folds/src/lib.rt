@@ -6,7 +6,8 @@ ghost use Rattle.definitions.specs.Lists.{total, largest};
 ghost use Rattle.folds.specs.Folds.{Told, IsLargest};
 
 // A way to measure items of one kind: `figure` says what an item's figure is, and `of` tells it.
-// It is no closure, since a contract can name `figure`, and not what a closure means.
+// It is no closure: a contract names `figure`, where of a closure it would say "for every figure that it computes" wherever a
+// sum is spoken of.
 pub trait Measure {
     type Item;
 

@@ -7,16 +7,6 @@ use Rattle.register.proofs.Exits.{other_key, same_key, rows_set}
 use Rattle.register.proofs.Sorted.{set_ascends}
 use Rattle.register.proofs.tables.Table.replace.Goals as goal
 
-pub returns-in_default : goal.returns-in_default
-returns-in_default g c = (refl, λ l. absurd (none-some _ (c.in_default.ensures ∙ slice_get-get_or (rows c.args.self.now) c.args.place c.args.record l)))
-
-pub returns-then-is_ne : goal.returns-then-is_ne
-returns-then-is_ne g c = (
-  refl,
-  λ l. other_key g.R.K.Key.before g.R.Keyed.key g.met.R.K.Key.trichotomy (rows c.args.self.now) c.args.place c.args.record c.in-Some.old c.key.result
-      c.in-Some.ensures c.key.ensures c.stands.result c.stands.ensures (sym c.is_ne.ensures ∙ c.if-is_ne.true),
-)
-
 pub bounds-self-place : goal.bounds-self-place
 bounds-self-place g c =
     let l = slice_get_within _ c.args.place c.in-Some.old (sym c.in-Some.ensures) in
