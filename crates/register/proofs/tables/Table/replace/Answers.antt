@@ -1,9 +1,9 @@
-use Rattle.std.proofs.Common.{refl, sym, ap, ◌∙◌, arith, rules, length-take, length-set}
-use Rattle.std.proofs.lemmas.Option.{slice_get_within, slice_get-get_or, none-some}
+use Rattle.std.proofs.Common.{sym, ap, ◌∙◌, arith, rules, length-take, length-set}
+use Rattle.std.proofs.lemmas.Option.{slice_get_within}
 use Rattle.definitions.specs.Lists.{ascending}
 use Rattle.register.specs.Orders.{by_key}
 use Rattle.register.specs.Tables.{rows}
-use Rattle.register.proofs.Exits.{other_key, same_key, rows_set}
+use Rattle.register.proofs.Exits.{same_key, rows_set}
 use Rattle.register.proofs.Sorted.{set_ascends}
 use Rattle.register.proofs.tables.Table.replace.Goals as goal
 
