@@ -37,6 +37,7 @@ fn load_of(port: &Port, link: VirtualLink, row: &HopRow) -> Load
 
 // Writes the loads of the port from the first place of `loads`, and tells how many there are. The table of loads is lent,
 // and only some hops bring a load, so that it is written by place.
+#[tactic(auto, using(crate::proofs::Gathered::one_more, crate::proofs::Gathered::none_more, crate::proofs::Gathered::all_gathered))]
 pub(crate) fn gather(
     links: &Table<LinkRow>,
     hops: &[HopRow],
@@ -57,6 +58,7 @@ pub(crate) fn gather(
 }
 
 // The lowest port that its loads overload.
+#[tactic(auto, using(crate::proofs::Gathered::first_here))]
 pub(crate) fn first_overloaded(
     ports: &[PortRow],
     links: &Table<LinkRow>,
