@@ -1,5 +1,5 @@
 -- What passing one hop makes of the tables.
-use Rattle.std.proofs.Common.{◌≡◌, ℕ, ◌+◌, ◌<◌, Bool, List, map, length, Some, None, Option, sym, refl, ap, ◌∙◌, subst, arith}
+use Rattle.std.proofs.Common.{◌≡◌, ℕ, ◌+◌, ◌<◌, Bool, List, map, length, Some, None, sym, refl, ap, ◌∙◌, subst, arith}
 use lib.ListN.{length-map}
 use Rattle.std.specs.List.{slice_get}
 use Rattle.definitions.specs.declared.network.Hop.{Hop}
@@ -14,16 +14,13 @@ use Rattle.working_out.proofs.Edited.{same_key}
 use Rattle.working_out.proofs.Advanced.{advance_known, advance_waits}
 
 module _ (p : Ports) (l : Links) (h : Hops) (i : ℕ) (y : HopRow) (at : Some y ≡ slice_get (rows h) i) where
-  abbrev Told : Option (ℕ × ℕ) → Type 0
-  Told o = Arrives (rows p) (rows l) (rows h) y.hop o
-
-  pub pass_known : (k : Hops) (a b : ℕ) (done : Bool) → Told (Some (a, b))
+  pub pass_known : (k : Hops) (a b : ℕ) (done : Bool) → Arrives (rows p) (rows l) (rows h) y.hop (Some (a, b))
       → Replacing place_before hop_key i (record { hop = y.hop; earliest = a; latest = b }) h k done → Advance p l h p k i (i + 1)
   pass_known k a b done told replaced r worth n s adv =
       let now-is = same_key place_before hop_key (λ (z : HopRow). record { hop = z.hop; earliest = a; latest = b }) (λ z. refl) h k i y _ done at refl replaced in
       subst (λ (hs : List HopRow). Advancing r worth (rows p) (rows l) hs (i + 1) n) (sym now-is) (advance_known r worth s (rows p) (rows l) (rows h) i n adv y at a b told)
 
-  pub pass_waits : (q : Ports) → Told None → EditsUnder number_before port_key y.hop.port held_up p q → Advance p l h q h i (i + 1)
+  pub pass_waits : (q : Ports) → Arrives (rows p) (rows l) (rows h) y.hop None → EditsUnder number_before port_key y.hop.port held_up p q → Advance p l h q h i (i + 1)
   pass_waits q told edited r worth n s adv =
       subst (λ (ps : List PortRow). Advancing r worth ps (rows l) (rows h) (i + 1) n) (sym (edited.edited (λ x. refl))) (advance_waits r worth s (rows p) (rows l) (rows h) i n adv y at told)
 

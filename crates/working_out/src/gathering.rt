@@ -37,7 +37,6 @@ fn load_of(port: &Port, link: VirtualLink, row: &HopRow) -> Load
 
 // Writes the loads of the port from the first place of `loads`, and tells how many there are. The table of loads is lent,
 // and only some hops bring a load, so that it is written by place.
-#[tactic(auto, using(crate::proofs::Gathered::one_more, crate::proofs::Gathered::none_more, crate::proofs::Gathered::all_gathered))]
 pub(crate) fn gather(
     links: &Table<LinkRow>,
     hops: &[HopRow],

@@ -1,5 +1,4 @@
-use Rattle.working_out.proofs.Edited.{under_changed, under_none, item_there}
-use Rattle.register.specs.Tables.{rows}
+use Rattle.working_out.proofs.Edited.{under_changed}
 use Rattle.working_out.proofs.edits.edit_under.Goals as goal
 
 pub returns : goal.returns

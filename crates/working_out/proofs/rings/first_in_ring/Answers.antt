@@ -1,5 +1,5 @@
 use Rattle.std.proofs.Common.{arith}
-use Rattle.working_out.proofs.RingFound.{none_here, ring_here, no_ring}
+use Rattle.working_out.proofs.RingFound.{no_ring}
 use Rattle.working_out.proofs.rings.first_in_ring.Goals as goal
 
 pub returns : goal.returns
