@@ -1,31 +1,28 @@
 -- One hop more is passed: its arrivals are known, or its port waits.
-use Rattle.std.proofs.Common.{◌≡◌, ℕ, ◌+◌, ◌<◌, length, get_or, not, ◌&&◌, ltb, ◌⊎◌, List, map, set, Some, None, sym, ap, ◌∙◌, subst, inl, inr, arith}
+use Rattle.std.proofs.Common.{◌≡◌, ℕ, ◌+◌, ◌<◌, length, get_or, ◌⊎◌, List, map, set, Some, None, sym, ap, ◌∙◌, subst, inl, inr, arith}
 use Rattle.std.proofs.Math.Seq.{map-set_same}
 use Rattle.std.proofs.lemmas.Bool.Decides.{nat_tests}
 use Rattle.std.proofs.lemmas.Option.{slice_get_within, get_or_from_slice_get}
 use Rattle.std.specs.List.{slice_get}
 use Rattle.definitions.specs.declared.loads.Load.{Load}
-use Rattle.definitions.specs.declared.network.Port.{Port}
-use Rattle.definitions.specs.declared.network.Hop.{Hop}
 use Rattle.definitions.specs.Lists.{In}
 use Rattle.definitions.specs.Network.{Records}
 use Rattle.definitions.specs.Figures.{Figures, FiguresOf}
 use Rattle.theory.proofs.Variants.{no_none}
 use Rattle.theory.proofs.Keys.{before_hop}
-use Rattle.working_out.specs.declared.rows.Progress.{Progress}
 use Rattle.working_out.specs.declared.rows.Progress.TheVariants.{Open, Waiting}
 use Rattle.working_out.specs.declared.rows.PortRow.{PortRow}
 use Rattle.working_out.specs.declared.rows.LinkRow.{LinkRow}
 use Rattle.working_out.specs.declared.rows.HopRow.{HopRow}
 use Rattle.working_out.specs.Keys.{number_before, port_key}
 use Rattle.working_out.specs.Edits.{edited_under}
-use Rattle.working_out.specs.Marks.{held_up_from, held_up}
+use Rattle.working_out.specs.Marks.{held_up}
 use Rattle.working_out.specs.Settling.{Setting, DoneAt, RightHop, Arrives, KnownHop, Advancing}
 use Rattle.working_out.proofs.Held.{hop_in, hop_row}
 use Rattle.working_out.proofs.Under.{numbers_one, under_here}
 use Rattle.working_out.proofs.RowLists.{map_in, at_in, set_in, take_set_in, take_more_in}
 use Rattle.working_out.proofs.Arrived.{arrival_right}
-use Rattle.working_out.proofs.Quieted.{Quiet, quiet_where, held_up_quiet, done_before, done_after, worked_quiet, untried_same}
+use Rattle.working_out.proofs.Quieted.{Quiet, done_before, done_after, worked_quiet, untried_same}
 
 module _ (r : Records) (worth : List Load → ℕ) (s : Setting r worth) (ps : List PortRow) (ls : List LinkRow) (hs : List HopRow) (i n : ℕ)
     (a : Advancing r worth ps ls hs i n) (y : HopRow) (at : Some y ≡ slice_get hs i) where
@@ -69,7 +66,7 @@ module _ (r : Records) (worth : List Load → ℕ) (s : Setting r worth) (ps : L
                 | inr k ↦ old.right_hops F f z k t
               ];
             };
-            known = λ z j. elim (take_set_in hs i _ z (within) j) [
+            known = λ z j. elim (take_set_in hs i _ z within j) [
               | inl same ↦ subst (KnownHop r worth ps) (sym same) (λ is_open. (right, λ q after. comes_after_done q after told))
               | inr k ↦ a.known.known z k
             ];
@@ -85,7 +82,15 @@ module _ (r : Records) (worth : List Load → ℕ) (s : Setting r worth) (ps : L
     mark = edited_under number_before port_key y.hop.port held_up
 
     quiet : Quiet mark
-    quiet = quiet_where (λ (x : PortRow). not (ltb x.port.number y.hop.port) && not (ltb y.hop.port x.port.number)) held_up held_up_quiet
+    quiet = record {
+      port = λ x. grind arith;
+      backlog = λ x. grind arith;
+      depth_same = λ x. grind arith;
+      done_on = λ x e. grind arith;
+      done_back = λ x e. grind arith;
+      past_back = λ x e. grind arith;
+      left = λ x. grind arith;
+    }
 
     -- the port before is not worked out, since the link has a hop there
     not_done : ¬ DoneAt ps told.0
@@ -96,15 +101,12 @@ module _ (r : Records) (worth : List Load → ℕ) (s : Setting r worth) (ps : L
           port = d.row;
           port_there = d.there;
           done = d.holds;
-          after = told.1 ∙ ap Some (sym d.number);
+          after = cc;
           hop = z;
           hop_there = there;
-          same_link = ap (λ (h : Hop). h.link) (sym e) ∙ same;
-          same_port = ap (λ (h : Hop). h.port) (sym e) ∙ port ∙ sym d.number;
+          same_link = cc;
+          same_port = cc;
         }
-
-    not_open : (p : Progress) → ¬ (held_up_from p ≡ Open)
-    not_open p e = grind arith
 
     open_back : (x : PortRow) → (mark x).progress ≡ Open → x.progress ≡ Open
     open_back x e = grind arith
@@ -118,12 +120,10 @@ module _ (r : Records) (worth : List Load → ℕ) (s : Setting r worth) (ps : L
         worked = worked_quiet mark quiet ps r worth ls hs a.known.worked;
         known = λ z j t.
             let (x, i', e) = map_in mark ps t.row t.there in
-            let number : x.port.number ≡ z.hop.port = ap (λ (p : Port). p.number) (sym (quiet.port x)) ∙ ap (λ (w : PortRow). w.port.number) (sym e) ∙ t.number in
-            let was-open = open_back x (ap (λ (w : PortRow). w.progress) (sym e) ∙ t.holds) in
-            elim (take_more_in hs i y z (within) j) [
-              | inl same ↦ absurd (not_open x.progress (
-                  ap (λ (w : PortRow). w.progress) (sym (under_here number_before port_key numbers_one y.hop.port held_up x (number ∙ ap (λ (w : HopRow). w.hop.port) (same ∙ read))) ∙ sym e)
-                  ∙ t.holds))
+            let number : x.port.number ≡ z.hop.port = cc (quiet.port x) in
+            let was-open = open_back x cc in
+            elim (take_more_in hs i y z within j) [
+              | inl same ↦ absurd (grind (arith, read, under_here number_before port_key numbers_one y.hop.port held_up x))
               | inr k ↦
                   let (right, after) = a.known.known z k record { row = x; there = i'; number = number; holds = was-open } in
                   (right, λ q f. done_after mark quiet ps q (after q f))
@@ -131,8 +131,8 @@ module _ (r : Records) (worth : List Load → ℕ) (s : Setting r worth) (ps : L
       };
       waits = λ z j waiting.
           let (x, i', e) = map_in mark ps z j in
-          let number : x.port.number ≡ z.port.number = ap (λ (p : Port). p.number) (sym (quiet.port x)) ∙ ap (λ (w : PortRow). w.port.number) (sym e) in
-          elim (waits_back x (ap (λ (w : PortRow). w.progress) (sym e) ∙ waiting)) [
+          let number : x.port.number ≡ z.port.number = cc (quiet.port x) in
+          elim (waits_back x cc) [
             | inl was ↦
                 let w = a.waits x i' was in
                 record { hop = w.hop; there = w.there; at = w.at ∙ number; before = w.before; after = w.after; not_done = λ d. w.not_done (done_before mark quiet ps w.before d) }

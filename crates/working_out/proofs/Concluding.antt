@@ -1,6 +1,5 @@
 -- What a working-out comes to, over the tables.
 use Rattle.std.proofs.Common.{◌≡◌, ℕ, ◌<◌, ◌≤◌, true, false, List, map, length, Some, None, Ok, Err, is_err, Option, Result, sym, refl, ap, ◌∙◌, subst, arith}
-use lib.ListN.{length-map}
 use Rattle.definitions.specs.declared.loads.Load.{Load}
 use Rattle.definitions.specs.declared.refusals.Refusal.{Refusal}
 use Rattle.definitions.specs.declared.refusals.Refusal.TheVariants.{LoadTableShort, PortOverloaded, PortInRing, FigurePastLimit}
@@ -24,6 +23,7 @@ use Rattle.working_out.specs.Settling.{Setting, Holds, Worked, Stuck}
 use Rattle.working_out.specs.Rings.{Remarked, RingTold, LowestTold, unmarked}
 use Rattle.working_out.specs.Works.{Shown, Zero, Cleared, FiguresLeft, result_of, Judged, Works}
 use Rattle.working_out.proofs.RowLists.{map_in, map_again}
+use Rattle.working_out.proofs.Held.{hop_count}
 use Rattle.working_out.proofs.LoadsOf.{loads_are}
 use Rattle.working_out.proofs.Rounds.{unworked}
 use Rattle.working_out.proofs.RingMarks.{ports_of_marks, row_of_marks}
@@ -139,36 +139,30 @@ module _ (worth : List Load → ℕ) (law : Lawful worth) (n : ℕ) (p : Ports) 
     held : Holds (net (rows p) (rows l) (rows h)) (rows q) (rows l) (rows k)
     held = cleared_held p h q k c (net (rows p) (rows l) (rows h)) (rows l) record { ports = refl; links = refl; hops = refl }
 
-    hop_count : length r.hops ≡ length (rows k)
-    hop_count = ap length (sym held.hops) ∙ length-map (rows k) (λ (y : HopRow). y.hop)
-
     pub works_short : n < length (rows k) → Works r worth n (rows q) (rows l) (rows k) (Err LoadTableShort)
-    works_short less = record { outcome = short; comes = omega (arith, less, hop_count); answer = refl; held = held; left = cleared_zero p h q k c }
+    works_short less = record { outcome = short; comes = omega (arith, less, hop_count held); answer = refl; held = held; left = cleared_zero p h q k c }
 
-    module _ (ps : List PortRow) (hs : List HopRow) (all-ports : ps ≡ rows q) (all-hops : hs ≡ rows k) (room : length (rows k) ≤ n) where
-      told : (a : Option ℕ) → (FirstPort (OverloadedRow (rows l) hs) ps a) → LowestTold r (OverloadedAt r) a
-      told a first = overload_told p h q k c r wf l held a
-          (subst (λ (zs : List PortRow). FirstPort (OverloadedRow (rows l) (rows k)) zs a) all-ports (subst (λ (zs : List HopRow). FirstPort (OverloadedRow (rows l) zs) ps a) all-hops first))
+    module _ (room : length (rows k) ≤ n) where
+      told : (a : Option ℕ) → (FirstPort (OverloadedRow (rows l) (rows k)) (rows q) a) → LowestTold r (OverloadedAt r) a
+      told = overload_told p h q k c r wf l held
 
-      pub works_overloaded : (x : ℕ) → (FirstPort (OverloadedRow (rows l) hs) ps (Some x))
+      pub works_overloaded : (x : ℕ) → (FirstPort (OverloadedRow (rows l) (rows k)) (rows q) (Some x))
           → Works r worth n (rows q) (rows l) (rows k) (Err (PortOverloaded x))
-      works_overloaded x first = record { outcome = overloaded x; comes = (omega (arith, room, hop_count), told (Some x) first); answer = refl; held = held; left = cleared_zero p h q k c }
+      works_overloaded x first = record { outcome = overloaded x; comes = (omega (arith, room, hop_count held), told (Some x) first); answer = refl; held = held; left = cleared_zero p h q k c }
 
-      module _ (first : FirstPort (OverloadedRow (rows l) hs) ps None) (u v : Ports) (m : Hops) (o : Result (Unit {0}) Refusal)
+      module _ (first : FirstPort (OverloadedRow (rows l) (rows k)) (rows q) None) (u v : Ports) (m : Hops) (o : Result (Unit {0}) Refusal)
           (stuck : (r : Records) → Setting r worth → Worked r worth (rows q) (rows l) (rows k) → Stuck r worth (rows u) (rows l) (rows m))
-          (ms : List HopRow) (all : ms ≡ rows m)
-          (judged : (r : Records) (worth : List Load → ℕ) (ls : List LinkRow) → Setting r worth → Stuck r worth (rows u) ls ms → Judged r worth (rows v) ls ms o) where
+          (judged : (r : Records) (worth : List Load → ℕ) (ls : List LinkRow) → Setting r worth → Stuck r worth (rows u) ls (rows m) → Judged r worth (rows v) ls (rows m) o) where
         verdict : Judged r worth (rows v) (rows l) (rows m) o
         verdict =
             let s : Setting r worth = record { well_formed = wf; lawful = law; carried = told None first } in
             let start = unworked r worth (rows q) (rows l) (rows k) held (cleared_open p h q k c) in
-            subst (λ (zs : List HopRow). Judged r worth (rows v) (rows l) zs o) all
-            (judged r worth (rows l) s (subst (Stuck r worth (rows u) (rows l)) (sym all) (stuck r s start)))
+            judged r worth (rows l) s (stuck r s start)
 
         pub works_refused : is_err o ≡ true → (w : Ports) (j : Hops) → Cleared v m w j → Works r worth n (rows w) (rows l) (rows j) o
         works_refused is w j again = record {
           outcome = verdict.outcome;
-          comes = verdict.comes n (omega (arith, room, hop_count));
+          comes = verdict.comes n (omega (arith, room, hop_count held));
           answer = verdict.told;
           held = cleared_held v m w j again r (rows l) verdict.held;
           left = zero_left verdict.outcome (sym (ap is_err verdict.told) ∙ is);
@@ -181,4 +175,4 @@ module _ (worth : List Load → ℕ) (law : Lawful worth) (n : ℕ) (p : Ports) 
         works_settled is =
             let well : o ≡ Ok tt = grind arith in
             let (G, done, figures) = verdict.shown well in
-            record { outcome = settles; comes = (omega (arith, room, hop_count), (G, done)); answer = well; held = verdict.held; left = (G, done, figures) }
+            record { outcome = settles; comes = (omega (arith, room, hop_count held), (G, done)); answer = well; held = verdict.held; left = (G, done, figures) }

@@ -1,5 +1,6 @@
 -- Held: each record that rows hold stands in a row, and the record of each row is held.
-use Rattle.std.proofs.Common.{◌≡◌, List, sym, subst}
+use Rattle.std.proofs.Common.{◌≡◌, List, length, sym, ap, ◌∙◌, subst}
+use Rattle.std.proofs.lemmas.List.{length-map}
 use Rattle.definitions.specs.declared.network.Port.{Port}
 use Rattle.definitions.specs.declared.network.Hop.{Hop}
 use Rattle.definitions.specs.Lists.{In}
@@ -17,6 +18,10 @@ module _ {r : Records} {ps : List PortRow} {ls : List LinkRow} {hs : List HopRow
 
   pub hop_in : (y : HopRow) → In y hs → In y.hop r.hops
   hop_in y i = subst (In y.hop) held.hops (in_map (λ (z : HopRow). z.hop) hs y i)
+
+  -- as many rows as records
+  pub hop_count : length hs ≡ length r.hops
+  hop_count = sym (length-map hs (λ (z : HopRow). z.hop)) ∙ ap length held.hops
 
   pub port_row : (p : Port) → In p r.ports → (x : PortRow) × In x ps × (p ≡ x.port)
   port_row p i = map_in (λ (z : PortRow). z.port) ps p (subst (In p) (sym held.ports) i)

@@ -1,5 +1,5 @@
 -- What is said of ports of which no more can be worked out.
-use Rattle.std.proofs.Common.{◌≡◌, ℕ, ◌⊎◌, List, Option, sym, refl, ap, ◌∙◌, subst, inl, inr}
+use Rattle.std.proofs.Common.{◌≡◌, ℕ, ◌⊎◌, List, Option, sym, refl, ap, ◌∙◌, subst, inl, inr, arith}
 use Rattle.std.specs.List.{AllByRecursion}
 use Rattle.definitions.specs.declared.loads.Load.{Load}
 use Rattle.definitions.specs.declared.network.Port.{Port}
@@ -26,10 +26,7 @@ use Rattle.working_out.proofs.FirstPorts.{first_lowest}
 
 -- the progress of a row, by cases
 cases_progress : (p : Progress) → (p ≡ Open) ⊎ ((p ≡ Waiting) ⊎ ((p ≡ WorkedOut) ⊎ (p ≡ PastLimit)))
-cases_progress Open = inl refl
-cases_progress Waiting = inr (inl refl)
-cases_progress WorkedOut = inr (inr (inl refl))
-cases_progress PastLimit = inr (inr (inr refl))
+cases_progress p = grind arith
 
 module _ (r : Records) (worth : List Load → ℕ) (s : Setting r worth) (ps : List PortRow) (ls : List LinkRow) (hs : List HopRow) (k : Stuck r worth ps ls hs) where
   -- without a port that waits there is no ring

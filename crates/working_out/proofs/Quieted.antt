@@ -1,5 +1,5 @@
 -- Marks that leave what was worked out as it was.
-use Rattle.std.proofs.Common.{◌≡◌, ℕ, Bool, cond, List, map, sym, refl, ap, ◌∙◌, subst, inl, inr, arith}
+use Rattle.std.proofs.Common.{◌≡◌, ℕ, List, map, sym, refl, ap, ◌∙◌, subst, arith}
 use Rattle.definitions.specs.declared.loads.Load.{Load}
 use Rattle.definitions.specs.declared.network.Port.{Port}
 use Rattle.definitions.specs.Network.{Records, InRing}
@@ -9,7 +9,7 @@ use Rattle.working_out.specs.declared.rows.Progress.TheVariants.{WorkedOut, Past
 use Rattle.working_out.specs.declared.rows.PortRow.{PortRow}
 use Rattle.working_out.specs.declared.rows.LinkRow.{LinkRow}
 use Rattle.working_out.specs.declared.rows.HopRow.{HopRow}
-use Rattle.working_out.specs.Marks.{opened, held_up}
+use Rattle.working_out.specs.Marks.{opened}
 use Rattle.working_out.specs.Settling.{Tried, DoneAt, RightPort, Worked, left_to_try, untried}
 use Rattle.working_out.proofs.RowLists.{map_in, map_again, total_same}
 
@@ -22,8 +22,7 @@ pub record Quiet (f : PortRow → PortRow) : Type 0 where
   pub past_back : (x : PortRow) → (f x).progress ≡ PastLimit → x.progress ≡ PastLimit
   pub left : (x : PortRow) → left_to_try (f x) ≡ left_to_try x
 
--- ## Which marks are quiet
-
+-- opening the ports that wait is quiet
 pub opened_quiet : Quiet opened
 opened_quiet = record {
   port = λ x. refl;
@@ -35,37 +34,13 @@ opened_quiet = record {
   left = λ x. grind arith;
 }
 
-pub held_up_quiet : Quiet held_up
-held_up_quiet = record {
-  port = λ x. refl;
-  backlog = λ x. refl;
-  depth_same = λ x. refl;
-  done_on = λ x e. grind arith;
-  done_back = λ x e. grind arith;
-  past_back = λ x e. grind arith;
-  left = λ x. grind arith;
-}
-
--- so is a quiet mark on some rows
-pub quiet_where : (t : PortRow → Bool) (f : PortRow → PortRow) → Quiet f → Quiet (λ (x : PortRow). cond (t x) (f x) x)
-quiet_where t f q = record {
-  port = λ x. grind (arith, q.port x);
-  backlog = λ x. grind (arith, q.backlog x);
-  depth_same = λ x. grind (arith, q.depth_same x);
-  done_on = λ x e. grind (arith, q.done_on x);
-  done_back = λ x e. grind (arith, q.done_back x);
-  past_back = λ x e. grind (arith, q.past_back x);
-  left = λ x. grind (arith, q.left x);
-}
-
--- ## What quiet marks leave
-
+-- what quiet marks leave
 module _ (f : PortRow → PortRow) (q : Quiet f) (ps : List PortRow) where
   pub done_after : (n : ℕ) → DoneAt ps n → DoneAt (map f ps) n
   done_after n d = record {
     row = f d.row;
     there = in_map f ps d.row d.there;
-    number = ap (λ (p : Port). p.number) (q.port d.row) ∙ d.number;
+    number = cc (q.port d.row);
     holds = q.done_on d.row d.holds;
   }
 
@@ -75,13 +50,12 @@ module _ (f : PortRow → PortRow) (q : Quiet f) (ps : List PortRow) where
       record {
         row = x;
         there = i;
-        number = ap (λ (p : Port). p.number) (sym (q.port x)) ∙ ap (λ (y : PortRow). y.port.number) (sym e) ∙ d.number;
-        holds = q.done_back x (ap (λ (y : PortRow). y.progress) (sym e) ∙ d.holds);
+        number = cc (q.port x);
+        holds = q.done_back x cc;
       }
 
   pub tried_before : (x : PortRow) → Tried (f x) → Tried x
-  tried_before x (inl e) = inl (q.done_back x e)
-  tried_before x (inr e) = inr (q.past_back x e)
+  tried_before x t = grind (arith, q.done_back x, q.past_back x)
 
   pub untried_same : untried (map f ps) ≡ untried ps
   untried_same = total_same left_to_try f ps q.left
@@ -99,7 +73,7 @@ module _ (f : PortRow → PortRow) (q : Quiet f) (ps : List PortRow) where
           subst (λ (n : ℕ). ¬ InRing r n) (sym (numbers x y e)) (w.no_ring x k (tried_before x (subst Tried e t)));
       right_ports = λ F g y j d.
           let (x, k, e) = map_in f ps y j in
-          let right = w.right_ports F g x k (q.done_back x (ap (λ (z : PortRow). z.progress) (sym e) ∙ d)) in
+          let right = w.right_ports F g x k (q.done_back x cc) in
           subst (RightPort r F) (sym e) record {
             backlog = q.backlog x ∙ right.backlog ∙ ap (λ (p : Port). F.backlog p.number) (sym (q.port x));
             depth_is = q.depth_same x ∙ right.depth_is ∙ ap (λ (p : Port). depth r F p.number) (sym (q.port x));
@@ -107,11 +81,11 @@ module _ (f : PortRow → PortRow) (q : Quiet f) (ps : List PortRow) where
           };
       past_ports = λ F g y j d.
           let (x, k, e) = map_in f ps y j in
-          subst (Past r F) (sym (numbers x y e)) (w.past_ports F g x k (q.past_back x (ap (λ (z : PortRow). z.progress) (sym e) ∙ d)));
+          subst (Past r F) (sym (numbers x y e)) (w.past_ports F g x k (q.past_back x cc));
       right_hops = λ F g y j t.
           let (x, k, e) = map_in f ps t.row t.there in
           w.right_hops F g y j record { row = x; there = k; number = sym (numbers x t.row e) ∙ t.number; holds = tried_before x (subst Tried e t.holds) };
     }
       where
         numbers : (x y : PortRow) → y ≡ f x → y.port.number ≡ x.port.number
-        numbers x y e = ap (λ (z : PortRow). z.port.number) e ∙ ap (λ (p : Port). p.number) (q.port x)
+        numbers x y e = cc (q.port x)

@@ -49,12 +49,9 @@ untried_most (x ∷ xs) = grind (arith, untried_most xs)
 pub none_left : (r : Records) (worth : List Load → ℕ) (ps : List PortRow) (ls : List LinkRow) (hs : List HopRow) → untried ps ≡ 0 → Worked r worth ps ls hs → Stuck r worth ps ls hs
 none_left r worth ps ls hs none w = record {
   worked = w;
-  waits = λ x j e. absurd (left x j (rw e refl));
-  none_open = λ x j e. left x j (rw e refl);
+  waits = λ x j e. absurd (grind (arith, in_total left_to_try ps x j));
+  none_open = λ x j e. grind (arith, in_total left_to_try ps x j);
 }
-  where
-    left : (x : PortRow) → In x ps → left_to_try x ≡ 1 → ⊥
-    left x j e = omega (arith, in_total left_to_try ps x j, none, e)
 
 -- rows without figures are a beginning
 pub unworked : (r : Records) (worth : List Load → ℕ) (ps : List PortRow) (ls : List LinkRow) (hs : List HopRow) → Holds r ps ls hs
@@ -72,13 +69,12 @@ unworked r worth ps ls hs held all = record {
     untried_yet x j t = grind (arith, all x j)
 
 -- one round, over the tables
-pub round_makes : (worth : List Load → ℕ) (t u v w : Ports) (l : Links) (h k : Hops) (hs : List HopRow) (any : Bool)
-    → EditsAll number_before port_key opened t u → Advance u l h v k 0 (length (rows h)) → length (rows k) ≡ length (rows h) → hs ≡ rows k
-    → ((r : Records) → Setting r worth → Known r worth (rows v) (rows l) hs (length hs) → SettlesFirst r worth (rows l) hs (length (rows v)) (rows v) (rows w) any)
+pub round_makes : (worth : List Load → ℕ) (t u v w : Ports) (l : Links) (h k : Hops) (any : Bool)
+    → EditsAll number_before port_key opened t u → Advance u l h v k 0 (length (rows h)) → length (rows k) ≡ length (rows h)
+    → ((r : Records) → Setting r worth → Known r worth (rows v) (rows l) (rows k) (length (rows k)) → SettlesFirst r worth (rows l) (rows k) (length (rows v)) (rows v) (rows w) any)
     → (r : Records) → Setting r worth → Worked r worth (rows t) (rows l) (rows h) → RoundMakes r worth (rows l) (rows t) (rows h) (rows w) (rows k) any
-round_makes worth t u v w l h k hs any edited passed count all settled r s old =
+round_makes worth t u v w l h k any edited passed count settled r s old =
     let start = subst (λ (ps : List PortRow). Advancing r worth ps (rows l) (rows h) 0 (untried (rows t))) (sym (edited.edited (λ x. refl))) (begins r worth (rows t) (rows l) (rows h) old) in
     let mid : Advancing r worth (rows v) (rows l) (rows k) (length (rows k)) (untried (rows t))
     = subst (λ (n : ℕ). Advancing r worth (rows v) (rows l) (rows k) n (untried (rows t))) (sym count) (passed r worth (untried (rows t)) s start) in
-    let done = settled r s (subst (λ (zs : List HopRow). Known r worth (rows v) (rows l) zs (length zs)) (sym all) mid.known) in
-    ends r worth (rows t) (rows v) (rows w) (rows l) (rows h) (rows k) any mid (subst (λ (zs : List HopRow). SettlesFirst r worth (rows l) zs (length (rows v)) (rows v) (rows w) any) all done)
+    ends r worth (rows t) (rows v) (rows w) (rows l) (rows h) (rows k) any mid (settled r s mid.known)

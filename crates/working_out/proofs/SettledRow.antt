@@ -1,12 +1,11 @@
 -- One port more is tried: its figures are worked out, or pass the limit.
-use Rattle.std.proofs.Common.{◌≡◌, ℕ, ◌+◌, ◌≤◌, List, length, get_or, set, Some, None, Option, sym, refl, ap, ◌∙◌, subst, inl, inr, arith}
+use Rattle.std.proofs.Common.{◌≡◌, ℕ, ◌+◌, ◌≤◌, List, length, set, Some, None, Option, sym, refl, ap, ◌∙◌, subst, inl, inr, arith}
 use native.Mathlib.Decide.{dec_le}
 use Rattle.std.specs.List.{slice_get}
 use Rattle.std.proofs.Math.Seq.{map-set_same}
 use Rattle.std.proofs.lemmas.List.{take_all}
 use Rattle.std.proofs.lemmas.Option.{slice_get_within, get_or_from_slice_get}
 use Rattle.definitions.specs.declared.loads.Load.{Load}
-use Rattle.definitions.specs.declared.network.Port.{Port}
 use Rattle.definitions.specs.declared.network.Hop.{Hop}
 use Rattle.definitions.specs.Lists.{In, total}
 use Rattle.definitions.specs.Loads.{AreLoads}
@@ -50,7 +49,7 @@ module _ (r : Records) (worth : List Load → ℕ) (s : Setting r worth) (ps : L
   fed_by_done : (q : ℕ) → FeedsNext r q x.port.number → DoneAt ps q
   fed_by_done q f =
       let (y, j, e) = hop_row a.worked.held f.hop f.there in
-      (known_here y j (ap (λ (h : Hop). h.port) (sym e) ∙ f.at)).1 q (ap (λ (h : Hop). h.after) (sym e) ∙ f.after)
+      (known_here y j cc).1 q cc
 
   -- what feeds a port that is worked out is worked out
   done_back : {q p : ℕ} → Feeds r q p → DoneAt ps p → DoneAt ps q
@@ -105,8 +104,8 @@ module _ (r : Records) (worth : List Load → ℕ) (s : Setting r worth) (ps : L
         | inl over ↦ omega (arith, can.within, backlog_is gs e)
         | inr (h, j, g, over) ↦
             let (y, k, same) = hop_row a.worked.held h j in
-            let right = (known_here y k (ap (λ (z : Hop). z.port) (sym same) ∙ g)).0 F f in
-            let le = departs y k (ap (λ (z : Hop). z.port) (sym same) ∙ g) in
+            let right = (known_here y k cc).0 F f in
+            let le = departs y k cc in
             omega (arith, over, le, right.latest, ap (latest_at F) same, backlog_is gs e, ap F.backlog g)
       ];
     }
@@ -130,9 +129,6 @@ module _ (r : Records) (worth : List Load → ℕ) (s : Setting r worth) (ps : L
     pub not_open : (o : Option (ℕ × ℕ)) → ¬ ((settled_row x o).progress ≡ Open)
     not_open o e = grind arith
 
-    none_left : (o : Option (ℕ × ℕ)) → left_to_try (settled_row x o) ≡ 0
-    none_left o = grind arith
-
     right_now : (F : Figures) → FiguresOf r worth F → (o : Option (ℕ × ℕ)) → Figured worth hs x.port.number gs o → (settled_row x o).progress ≡ WorkedOut → RightPort r F (settled_row x o)
     right_now F f (Some g) t e = figures_right F f gs gathered g.0 g.1 t
     right_now F f None t e = cc
@@ -149,12 +145,12 @@ module _ (r : Records) (worth : List Load → ℕ) (s : Setting r worth) (ps : L
     ]
 
     numbered : (z : PortRow) → z ≡ settled_row x o → z.port.number ≡ x.port.number
-    numbered z e = ap (λ (w : PortRow). w.port.number) e ∙ ap (λ (p : Port). p.number) (same_port o)
+    numbered z e = cc (same_port o)
 
     worked_on : Worked r worth (set ps i (settled_row x o)) ls hs
     worked_on = record {
       held = record {
-        ports = map-set_same (λ (z : PortRow). z.port) ps i (settled_row x o) x (same_port o ∙ ap (λ (z : PortRow). z.port) (sym (get_or_from_slice_get ps i x x (sym at)))) ∙ a.worked.held.ports;
+        ports = map-set_same (λ (z : PortRow). z.port) ps i (settled_row x o) x (cc (same_port o, get_or_from_slice_get ps i x x (sym at))) ∙ a.worked.held.ports;
         links = a.worked.held.links;
         hops = a.worked.held.hops;
       };
@@ -167,11 +163,11 @@ module _ (r : Records) (worth : List Load → ℕ) (s : Setting r worth) (ps : L
         | inr m ↦ a.worked.no_ring z m t
       ];
       right_ports = λ F f z j done. elim (set_in ps i (settled_row x o) z j) [
-        | inl same ↦ subst (RightPort r F) (sym same) (right_now F f o told (ap (λ (w : PortRow). w.progress) (sym same) ∙ done))
+        | inl same ↦ subst (RightPort r F) (sym same) (right_now F f o told cc)
         | inr m ↦ a.worked.right_ports F f z m done
       ];
       past_ports = λ F f z j past. elim (set_in ps i (settled_row x o) z j) [
-        | inl same ↦ subst (Past r F) (sym (numbered z same)) (past_now F f o told (ap (λ (w : PortRow). w.progress) (sym same) ∙ past))
+        | inl same ↦ subst (Past r F) (sym (numbered z same)) (past_now F f o told cc)
         | inr m ↦ a.worked.past_ports F f z m past
       ];
       right_hops = λ F f y j t. elim (set_in ps i (settled_row x o) t.row t.there) [
@@ -184,7 +180,7 @@ module _ (r : Records) (worth : List Load → ℕ) (s : Setting r worth) (ps : L
     known_on = record {
       worked = worked_on;
       known = λ y j t. elim (set_in ps i (settled_row x o) t.row t.there) [
-        | inl same ↦ absurd (not_open o (ap (λ (w : PortRow). w.progress) (sym same) ∙ t.holds))
+        | inl same ↦ absurd (not_open o cc)
         | inr m ↦
             let (right, after) = a.known y j record { row = t.row; there = m; number = t.number; holds = t.holds } in
             (right, λ q e. done_on q (after q e))
@@ -193,7 +189,4 @@ module _ (r : Records) (worth : List Load → ℕ) (s : Setting r worth) (ps : L
 
     -- one port less is left
     pub one_less : untried (set ps i (settled_row x o)) + 1 ≡ untried ps
-    one_less =
-        let sums = total_set left_to_try ps i x (settled_row x o) (slice_get_within ps i x (sym at)) in
-        let was : left_to_try (get_or ps i x) ≡ 1 = ap left_to_try (get_or_from_slice_get ps i x x (sym at)) ∙ rw is_open refl in
-        omega (arith, sums, was, none_left o)
+    one_less = grind (arith, total_set left_to_try ps i x (settled_row x o) (slice_get_within ps i x (sym at)), get_or_from_slice_get ps i x x (sym at))

@@ -1,5 +1,5 @@
 -- What trying ports makes of their table.
-use Rattle.std.proofs.Common.{◌≡◌, ℕ, ◌+◌, ◌<◌, ◌≤◌, Bool, true, false, ◌||◌, List, length, take, set, Some, Option, sym, refl, ap, ◌∙◌, subst, inl, inr, arith, length-set}
+use Rattle.std.proofs.Common.{◌≡◌, ℕ, ◌+◌, ◌<◌, ◌≤◌, Bool, true, false, ◌||◌, List, length, take, set, Some, Option, sym, ap, ◌∙◌, subst, inl, inr, arith, length-set}
 use Rattle.std.specs.List.{slice_get}
 use Rattle.std.proofs.lemmas.List.{take_all}
 use Rattle.std.proofs.lemmas.Option.{slice_get_within, slice_get-get_or}
@@ -46,22 +46,18 @@ settle_more r worth ls hs i ps qs vs any false lt old (same, shut) = record {
       ];
   same_count = ap length same ∙ old.same_count;
   same = λ e. same ∙ old.same (grind arith);
-  fewer = λ e. subst (λ (zs : List PortRow). untried zs < untried ps) (sym same) (old.fewer (grind arith));
+  fewer = λ e. grind (arith, old.fewer);
 }
 settle_more r worth ls hs i ps qs vs any true lt old (x, within, now-is, shut, known, less) = record {
   known = known;
   none_open = λ z j. elim (take_set_in qs i x z within (subst (λ (zs : List PortRow). In z (take (i + 1) zs)) now-is j)) [
-    | inl e ↦ λ f. shut (ap (λ (w : PortRow). w.progress) (sym e) ∙ f)
+    | inl e ↦ λ f. shut cc
     | inr k ↦ old.none_open z k
   ];
   same_count = ap length now-is ∙ length-set qs i x ∙ old.same_count;
   same = λ e. absurd (grind arith);
-  fewer = λ e. fewer_still any refl;
+  fewer = λ e. grind (arith, old.fewer, old.same);
 }
-  where
-    fewer_still : (b : Bool) → any ≡ b → untried vs < untried ps
-    fewer_still true e = omega (arith, less, old.fewer e)
-    fewer_still false e = omega (arith, less, ap untried (old.same e))
 
 -- after the last place no port is open
 pub settled_all : (r : Records) (worth : List Load → ℕ) (ls : List LinkRow) (hs : List HopRow) (i : ℕ) (ps qs : List PortRow) (any : Bool) → length ps ≤ i
