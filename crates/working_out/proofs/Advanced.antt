@@ -1,16 +1,14 @@
 -- One hop more is passed: its arrivals are known, or its port waits.
-use Rattle.std.proofs.Common.{◌≡◌, ℕ, ◌+◌, true, false, cond, not, ◌&&◌, ltb, ◌⊎◌, List, map, set, Some, None, Option, sym, refl, ap, ◌∙◌, subst, inl, inr, arith}
-use Rattle.std.proofs.lemmas.Bool.{and_parts, not-true, ltb-false}
+use Rattle.std.proofs.Common.{◌≡◌, ℕ, ◌+◌, ◌<◌, length, get_or, ◌⊎◌, List, map, set, Some, None, sym, ap, ◌∙◌, subst, inl, inr, arith}
+use Rattle.std.proofs.Math.Seq.{map-set_same}
+use Rattle.std.proofs.lemmas.Bool.Decides.{nat_tests}
+use Rattle.std.proofs.lemmas.Option.{slice_get_within, get_or_from_slice_get}
 use Rattle.std.specs.List.{slice_get}
 use Rattle.definitions.specs.declared.loads.Load.{Load}
-use Rattle.definitions.specs.declared.network.Port.{Port}
-use Rattle.definitions.specs.declared.network.Hop.{Hop}
 use Rattle.definitions.specs.Lists.{In}
 use Rattle.definitions.specs.Network.{Records}
 use Rattle.definitions.specs.Figures.{Figures, FiguresOf}
-use Rattle.register.proofs.Exits.{some_within}
-use Rattle.register.proofs.Sorted.{getD_in}
-use Rattle.theory.proofs.Members.{in_map}
+use Rattle.theory.proofs.Variants.{no_none}
 use Rattle.theory.proofs.Keys.{before_hop}
 use Rattle.working_out.specs.declared.rows.Progress.TheVariants.{Open, Waiting}
 use Rattle.working_out.specs.declared.rows.PortRow.{PortRow}
@@ -20,44 +18,35 @@ use Rattle.working_out.specs.Keys.{number_before, port_key}
 use Rattle.working_out.specs.Edits.{edited_under}
 use Rattle.working_out.specs.Marks.{held_up}
 use Rattle.working_out.specs.Settling.{Setting, DoneAt, RightHop, Arrives, KnownHop, Advancing}
-use Rattle.working_out.proofs.Edited.{read_at}
+use Rattle.working_out.proofs.Held.{hop_in, hop_row}
 use Rattle.working_out.proofs.Under.{numbers_one, under_here}
-use Rattle.working_out.proofs.RowLists.{map_in, set_in, map_set, take_set_in, take_more_in}
-use Rattle.working_out.proofs.Arriving.{some_number}
+use Rattle.working_out.proofs.RowLists.{map_in, at_in, set_in, take_set_in, take_more_in}
 use Rattle.working_out.proofs.Arrived.{arrival_right}
-use Rattle.working_out.proofs.Quieted.{Quiet, quiet_where, held_up_quiet, held_up_open, done_before, done_after, worked_quiet, untried_same}
-
-not_some : {X : Type 0} (o : Option ℕ) (a : ℕ) → o ≡ None → o ≡ Some a → X
-not_some o a e f = let z : ◌≡◌ {A = ℕ} 0 1 = cc in absurd (omega arith)
-
--- a port is told from others by its number
-same_number : (a k : ℕ) → (not (ltb a k) && not (ltb k a)) ≡ true → a ≡ k
-same_number a k h =
-    let (x, y) = and_parts (not (ltb a k)) (not (ltb k a)) h in
-    let m = ltb-false a k (not-true (ltb a k) x) in
-    let o = ltb-false k a (not-true (ltb k a) y) in
-    omega arith
+use Rattle.working_out.proofs.Quieted.{Quiet, done_before, done_after, worked_quiet, untried_same}
 
 module _ (r : Records) (worth : List Load → ℕ) (s : Setting r worth) (ps : List PortRow) (ls : List LinkRow) (hs : List HopRow) (i n : ℕ)
     (a : Advancing r worth ps ls hs i n) (y : HopRow) (at : Some y ≡ slice_get hs i) where
   in_hops : In y.hop r.hops
-  in_hops = subst (In y.hop) a.known.worked.held.hops (in_map (λ (z : HopRow). z.hop) hs y (subst (λ z. In z hs) (read_at hs i y y at) (getD_in hs i y (some_within hs i y at))))
+  in_hops = hop_in a.known.worked.held y (at_in hs i y at)
+
+  read : get_or hs i y ≡ y
+  read = get_or_from_slice_get hs i y y (sym at)
+
+  within : i < length hs
+  within = slice_get_within hs i y (sym at)
 
   -- ## Its arrivals are known
 
   module _ (e l : ℕ) (told : Arrives ps ls hs y.hop (Some (e, l))) where
-    new : HopRow
-    new = record { hop = y.hop; earliest = e; latest = l }
-
     right : (F : Figures) → FiguresOf r worth F → RightHop F record { hop = y.hop; earliest = e; latest = l }
     right F f = arrival_right r worth s F f ps ls hs a.known.worked y.hop in_hops (e, l) told
 
     comes_after_done : (q : ℕ) → y.hop.after ≡ Some q → Arrives ps ls hs y.hop (Some (e, l)) → DoneAt ps q
-    comes_after_done q after (inl (none, z, w)) = not_some y.hop.after q none after
+    comes_after_done q after (inl (none, z, w)) = no_none (sym none ∙ after)
     comes_after_done q after (inr (b, z, w)) = record {
       row = b.port;
       there = b.port_there;
-      number = some_number y.hop.after b.port.port.number q b.after after;
+      number = cc;
       holds = b.done;
     }
 
@@ -67,7 +56,7 @@ module _ (r : Records) (worth : List Load → ℕ) (s : Setting r worth) (ps : L
         record {
           known = record {
             worked = record {
-              held = record { ports = old.held.ports; links = old.held.links; hops = map_set (λ (z : HopRow). z.hop) hs i y _ (some_within hs i y at) (ap (λ (z : HopRow). z.hop) (sym (read_at hs i y y at))) ∙ old.held.hops };
+              held = record { ports = old.held.ports; links = old.held.links; hops = map-set_same (λ (z : HopRow). z.hop) hs i _ y (ap (λ (z : HopRow). z.hop) (sym read)) ∙ old.held.hops };
               after_done = old.after_done;
               no_ring = old.no_ring;
               right_ports = old.right_ports;
@@ -77,7 +66,7 @@ module _ (r : Records) (worth : List Load → ℕ) (s : Setting r worth) (ps : L
                 | inr k ↦ old.right_hops F f z k t
               ];
             };
-            known = λ z j. elim (take_set_in hs i _ z (some_within hs i y at) j) [
+            known = λ z j. elim (take_set_in hs i _ z within j) [
               | inl same ↦ subst (KnownHop r worth ps) (sym same) (λ is_open. (right, λ q after. comes_after_done q after told))
               | inr k ↦ a.known.known z k
             ];
@@ -93,37 +82,37 @@ module _ (r : Records) (worth : List Load → ℕ) (s : Setting r worth) (ps : L
     mark = edited_under number_before port_key y.hop.port held_up
 
     quiet : Quiet mark
-    quiet = quiet_where (λ (x : PortRow). not (ltb x.port.number y.hop.port) && not (ltb y.hop.port x.port.number)) held_up held_up_quiet
+    quiet = record {
+      port = λ x. grind arith;
+      backlog = λ x. grind arith;
+      depth_same = λ x. grind arith;
+      done_on = λ x e. grind arith;
+      done_back = λ x e. grind arith;
+      past_back = λ x e. grind arith;
+      left = λ x. grind arith;
+    }
 
     -- the port before is not worked out, since the link has a hop there
     not_done : ¬ DoneAt ps told.0
     not_done d =
         let (k, j, same, port) = before_hop r s.well_formed y.hop in_hops told.0 told.1 in
-        let (z, there, e) = map_in (λ (w : HopRow). w.hop) hs k (subst (In k) (sym a.known.worked.held.hops) j) in
+        let (z, there, e) = hop_row a.known.worked.held k j in
         told.2 record {
           port = d.row;
           port_there = d.there;
           done = d.holds;
-          after = told.1 ∙ ap Some (sym d.number);
+          after = cc;
           hop = z;
           hop_there = there;
-          same_link = ap (λ (h : Hop). h.link) (sym e) ∙ same;
-          same_port = ap (λ (h : Hop). h.port) (sym e) ∙ port ∙ sym d.number;
+          same_link = cc;
+          same_port = cc;
         }
 
     open_back : (x : PortRow) → (mark x).progress ≡ Open → x.progress ≡ Open
-    open_back x = elim (not (ltb x.port.number y.hop.port) && not (ltb y.hop.port x.port.number))
-        as (λ b. (cond b (held_up x) x).progress ≡ Open → x.progress ≡ Open) [
-          | true ↦ λ e. absurd (held_up_open x.progress e)
-          | false ↦ λ e. e
-        ]
+    open_back x e = grind arith
 
-    waits_back : (x : PortRow) → (mark x).progress ≡ Waiting → (x.progress ≡ Waiting) ⊎ ((not (ltb x.port.number y.hop.port) && not (ltb y.hop.port x.port.number)) ≡ true)
-    waits_back x = elim (not (ltb x.port.number y.hop.port) && not (ltb y.hop.port x.port.number))
-        as (λ b. (cond b (held_up x) x).progress ≡ Waiting → (x.progress ≡ Waiting) ⊎ (b ≡ true)) [
-          | true ↦ λ e. inr refl
-          | false ↦ λ e. inl e
-        ]
+    waits_back : (x : PortRow) → (mark x).progress ≡ Waiting → (x.progress ≡ Waiting) ⊎ (x.port.number ≡ y.hop.port)
+    waits_back x e = grind (arith, nat_tests)
 
     pub advance_waits : Advancing r worth (map mark ps) ls hs (i + 1) n
     advance_waits = record {
@@ -131,12 +120,10 @@ module _ (r : Records) (worth : List Load → ℕ) (s : Setting r worth) (ps : L
         worked = worked_quiet mark quiet ps r worth ls hs a.known.worked;
         known = λ z j t.
             let (x, i', e) = map_in mark ps t.row t.there in
-            let number : x.port.number ≡ z.hop.port = ap (λ (p : Port). p.number) (sym (quiet.port x)) ∙ ap (λ (w : PortRow). w.port.number) (sym e) ∙ t.number in
-            let was-open = open_back x (ap (λ (w : PortRow). w.progress) (sym e) ∙ t.holds) in
-            elim (take_more_in hs i y z (some_within hs i y at) j) [
-              | inl same ↦ absurd (held_up_open x.progress (
-                  ap (λ (w : PortRow). w.progress) (sym (under_here number_before port_key numbers_one y.hop.port held_up x (number ∙ ap (λ (w : HopRow). w.hop.port) (same ∙ read_at hs i y y at))) ∙ sym e)
-                  ∙ t.holds))
+            let number : x.port.number ≡ z.hop.port = cc (quiet.port x) in
+            let was-open = open_back x cc in
+            elim (take_more_in hs i y z within j) [
+              | inl same ↦ absurd (grind (arith, read, under_here number_before port_key numbers_one y.hop.port held_up x))
               | inr k ↦
                   let (right, after) = a.known.known z k record { row = x; there = i'; number = number; holds = was-open } in
                   (right, λ q f. done_after mark quiet ps q (after q f))
@@ -144,15 +131,15 @@ module _ (r : Records) (worth : List Load → ℕ) (s : Setting r worth) (ps : L
       };
       waits = λ z j waiting.
           let (x, i', e) = map_in mark ps z j in
-          let number : x.port.number ≡ z.port.number = ap (λ (p : Port). p.number) (sym (quiet.port x)) ∙ ap (λ (w : PortRow). w.port.number) (sym e) in
-          elim (waits_back x (ap (λ (w : PortRow). w.progress) (sym e) ∙ waiting)) [
+          let number : x.port.number ≡ z.port.number = cc (quiet.port x) in
+          elim (waits_back x cc) [
             | inl was ↦
                 let w = a.waits x i' was in
                 record { hop = w.hop; there = w.there; at = w.at ∙ number; before = w.before; after = w.after; not_done = λ d. w.not_done (done_before mark quiet ps w.before d) }
             | inr same ↦ record {
               hop = y.hop;
               there = in_hops;
-              at = sym (same_number x.port.number y.hop.port same) ∙ number;
+              at = sym same ∙ number;
               before = told.0;
               after = told.1;
               not_done = λ d. not_done (done_before mark quiet ps told.0 d);

@@ -1,5 +1,5 @@
 -- The arrivals that are told from rows that are right are those of the figures.
-use Rattle.std.proofs.Common.{◌≡◌, ℕ, ◌+◌, ◌<◌, ◌≤◌, eqb, List, map, Some, sym, ap, ◌∙◌, subst, inl, inr, arith}
+use Rattle.std.proofs.Common.{◌≡◌, ℕ, ◌+◌, ◌<◌, ◌≤◌, eqb, List, Some, sym, ap, ◌∙◌, inl, inr, arith}
 use native.Mathlib.Decide.{dec_le}
 use Rattle.std.proofs.lemmas.Bool.{eq-eqb}
 use Rattle.definitions.specs.declared.loads.Load.{Load}
@@ -18,17 +18,14 @@ use Rattle.working_out.specs.declared.rows.PortRow.{PortRow}
 use Rattle.working_out.specs.declared.rows.LinkRow.{LinkRow}
 use Rattle.working_out.specs.declared.rows.HopRow.{HopRow}
 use Rattle.working_out.specs.Gathering.{link_under}
-use Rattle.working_out.specs.Settling.{Setting, RightHop, Before, Arrives, Worked}
+use Rattle.working_out.specs.Settling.{Setting, Holds, RightHop, Before, Arrives, Worked}
 use Rattle.working_out.proofs.RowLists.{in_total}
-
--- a load brings a frame at once
-at_least_once : (l : Load) → l.occupancy ≤ window l 0
-at_least_once l = omega arith
+use Rattle.working_out.proofs.Held.{port_in, hop_in}
 
 -- the port of a row is what its number finds
-pub row_port : (r : Records) → WellFormed r → (ps : List PortRow) → map (λ (x : PortRow). x.port) ps ≡ r.ports → (x : PortRow) → In x ps
+pub row_port : {r : Records} {ps : List PortRow} {ls : List LinkRow} {hs : List HopRow} → WellFormed r → Holds r ps ls hs → (x : PortRow) → In x ps
     → find_port r.ports x.port.number ≡ x.port
-row_port r wf ps held x i = find_in (λ (p : Port). p.number) _ r.ports wf.ports_ascend x.port (subst (In x.port) held (in_map (λ (y : PortRow). y.port) ps x i))
+row_port {r = r} wf held x i = find_in (λ (p : Port). p.number) _ r.ports wf.ports_ascend x.port (port_in held x i)
 
 module _ (r : Records) (worth : List Load → ℕ) (s : Setting r worth) (F : Figures) (f : FiguresOf r worth F) where
   -- where no figure of a port passes the limit, its backlog bounds what its loads bring
@@ -49,7 +46,7 @@ module _ (r : Records) (worth : List Load → ℕ) (s : Setting r worth) (F : Fi
       let kept = hop_link_kept r s.well_formed k j in
       let shorter = occupancy_mono (find_port r.ports p.number) (find_link r.links k.link).shortest (find_link r.links k.link).longest kept.lengths.in_order in
       let same = ap (λ n. occupancy (find_port r.ports n) (find_link r.links k.link).longest) at in
-      let once : (load_of r F k).occupancy ≤ window (load_of r F k) 0 = at_least_once (load_of r F k) in
+      let once : (load_of r F k).occupancy ≤ window (load_of r F k) 0 = omega arith in
       omega arith
 
   module _ (ps : List PortRow) (ls : List LinkRow) (hs : List HopRow) (w : Worked r worth ps ls hs) where
@@ -63,14 +60,14 @@ module _ (r : Records) (worth : List Load → ℕ) (s : Setting r worth) (F : Fi
     after_rows h i b =
         let x = b.port in
         let k = b.hop in
-        let in_ports : In x.port r.ports = subst (In x.port) w.held.ports (in_map (λ (y : PortRow). y.port) ps x b.port_there) in
-        let in_hops : In k.hop r.hops = subst (In k.hop) w.held.hops (in_map (λ (y : HopRow). y.hop) hs k b.hop_there) in
+        let in_ports : In x.port r.ports = port_in w.held x b.port_there in
+        let in_hops : In k.hop r.hops = hop_in w.held k b.hop_there in
         let right = w.right_ports F f x b.port_there b.done in
         let right-hop = w.right_hops F f k b.hop_there record { row = x; there = b.port_there; number = sym b.same_port; holds = inl b.done } in
         let place : (l p : ℕ) → l ≡ k.hop.link → p ≡ k.hop.port → (F.earliest l p ≡ k.earliest) × (F.latest l p ≡ k.latest)
         = λ l p e g. (ap (λ n. F.earliest n p) e ∙ ap (F.earliest k.hop.link) g ∙ sym right-hop.earliest, ap (λ n. F.latest n p) e ∙ ap (F.latest k.hop.link) g ∙ sym right-hop.latest) in
         let (early, late) = place h.link x.port.number (sym b.same_link) (sym b.same_port) in
-        let found = ap (λ (p : Port). occupancy p (find_link r.links h.link).shortest) (row_port r s.well_formed ps w.held.ports x b.port_there) in
+        let found = ap (λ (p : Port). occupancy p (find_link r.links h.link).shortest) (row_port s.well_formed w.held x b.port_there) in
         let small = occupancy_within k.hop in_hops x.port in_ports b.same_port right.within in
         let small-here = ap (λ n. occupancy (find_port r.ports x.port.number) (find_link r.links n).shortest) b.same_link in
         let e = f.next_earliest h i x.port.number b.after in

@@ -1,5 +1,5 @@
 -- What is told of the arrivals at a hop.
-use Rattle.std.proofs.Common.{◌≡◌, ℕ, true, List, Some, None, Option, sym, ap, ◌∙◌, inr}
+use Rattle.std.proofs.Common.{◌≡◌, ℕ, true, List, Some, None, inr, arith}
 use Rattle.definitions.specs.declared.network.Hop.{Hop}
 use Rattle.definitions.specs.Lists.{ascending}
 use Rattle.register.specs.Tables.{by_key, Getting}
@@ -11,12 +11,9 @@ use Rattle.working_out.specs.Keys.{number_before, port_key, hop_key}
 use Rattle.working_out.proofs.Tabled.{one_row}
 use Rattle.working_out.specs.Settling.{Arrives, next_earliest, next_latest}
 
-pub some_number : (o : Option ℕ) (a b : ℕ) → o ≡ Some a → o ≡ Some b → a ≡ b
-some_number o a b e f = cc
-
 module _ (ps : List PortRow) (ls : List LinkRow) (hs : List HopRow) (h : Hop) (q : ℕ) (after : h.after ≡ Some q) where
   pub port_unknown : Getting port_key ps q None → Arrives ps ls hs h None
-  port_unknown none = (q, after, λ b. none b.port b.port_there (some_number h.after b.port.port.number q b.after after))
+  port_unknown none = (q, after, λ b. none b.port b.port_there cc)
 
   pub port_undone : ascending (by_key number_before port_key) ps ≡ true → (x : PortRow) → Getting port_key ps q (Some x) → ¬ (x.progress ≡ WorkedOut)
       → Arrives ps ls hs h None
@@ -24,18 +21,12 @@ module _ (ps : List PortRow) (ls : List LinkRow) (hs : List HopRow) (h : Hop) (q
     q,
     after,
     λ b.
-        let same : b.port ≡ x = one_row ps up b.port x b.port_there i (some_number h.after b.port.port.number q b.after after ∙ sym e) in
-        not_done (ap (λ (z : PortRow). z.progress) (sym same) ∙ b.done),
+        let same : b.port ≡ x = one_row ps up b.port x b.port_there i cc in
+        not_done cc,
   )
 
   pub hop_unknown : Getting hop_key hs (h.link, q) None → Arrives ps ls hs h None
-  hop_unknown none = (
-    q,
-    after,
-    λ b.
-        let at : b.hop.hop.port ≡ q = b.same_port ∙ some_number h.after b.port.port.number q b.after after in
-        none b.hop b.hop_there (ap (λ (n : ℕ). (n, b.hop.hop.port)) b.same_link ∙ ap (λ (n : ℕ). (h.link, n)) at),
-  )
+  hop_unknown none = (q, after, λ b. none b.hop b.hop_there cc)
 
   pub arrives : (x : PortRow) (y : HopRow) → Getting port_key ps q (Some x) → x.progress ≡ WorkedOut → Getting hop_key hs (h.link, q) (Some y)
       → (a b : ℕ) → a ≡ next_earliest ls x y → b ≡ next_latest x y → Arrives ps ls hs h (Some (a, b))
@@ -44,11 +35,11 @@ module _ (ps : List PortRow) (ls : List LinkRow) (hs : List HopRow) (h : Hop) (q
       port = x;
       port_there = i;
       done = done;
-      after = after ∙ ap Some (sym e);
+      after = cc;
       hop = y;
       hop_there = j;
-      same_link = ap (λ (n : ℕ × ℕ). n.0) k;
-      same_port = ap (λ (n : ℕ × ℕ). n.1) k ∙ sym e;
+      same_link = grind arith;
+      same_port = grind arith;
     },
     f,
     g,

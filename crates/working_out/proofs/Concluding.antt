@@ -1,7 +1,5 @@
 -- What a working-out comes to, over the tables.
 use Rattle.std.proofs.Common.{◌≡◌, ℕ, ◌<◌, ◌≤◌, true, false, List, map, length, Some, None, Ok, Err, is_err, Option, Result, sym, refl, ap, ◌∙◌, subst, arith}
-use lib.ListN.{length-map}
-use Rattle.std.proofs.lemmas.Bool.{false≢true}
 use Rattle.definitions.specs.declared.loads.Load.{Load}
 use Rattle.definitions.specs.declared.refusals.Refusal.{Refusal}
 use Rattle.definitions.specs.declared.refusals.Refusal.TheVariants.{LoadTableShort, PortOverloaded, PortInRing, FigurePastLimit}
@@ -14,7 +12,7 @@ use Rattle.definitions.specs.WorkingOut.{Outcome, settles, short, overloaded, ri
 use Rattle.register.specs.Tables.{rows}
 use Rattle.theory.proofs.Members.{all_in, in_all}
 use Rattle.theory.proofs.Exist.{figures_exist}
-use Rattle.working_out.specs.declared.rows.Progress.TheVariants.{Open, Waiting, PastLimit}
+use Rattle.working_out.specs.declared.rows.Progress.TheVariants.{Open, PastLimit}
 use Rattle.working_out.specs.declared.rows.PortRow.{PortRow}
 use Rattle.working_out.specs.declared.rows.LinkRow.{LinkRow}
 use Rattle.working_out.specs.declared.rows.HopRow.{HopRow}
@@ -22,36 +20,17 @@ use Rattle.working_out.specs.Keys.{Ports, Links, Hops}
 use Rattle.working_out.specs.Rows.{bare_port, bare_hop, net}
 use Rattle.working_out.specs.Gathering.{loads_at, FirstPort, OverloadedRow}
 use Rattle.working_out.specs.Settling.{Setting, Holds, Worked, Stuck}
-use Rattle.working_out.specs.Rings.{Remarked, RingTold, LowestTold, FindsRing, unmarked}
+use Rattle.working_out.specs.Rings.{Remarked, RingTold, LowestTold, unmarked}
 use Rattle.working_out.specs.Works.{Shown, Zero, Cleared, FiguresLeft, result_of, Judged, Works}
-use Rattle.working_out.proofs.RowLists.{map_in}
-use Rattle.working_out.proofs.Quieted.{map_again}
+use Rattle.working_out.proofs.RowLists.{map_in, map_again}
+use Rattle.working_out.proofs.Held.{hop_count}
 use Rattle.working_out.proofs.LoadsOf.{loads_are}
 use Rattle.working_out.proofs.Rounds.{unworked}
 use Rattle.working_out.proofs.RingMarks.{ports_of_marks, row_of_marks}
 use Rattle.working_out.proofs.FirstPorts.{first_lowest}
-use Rattle.working_out.proofs.Judging.{none_waits, lowest_past, settled, shown}
-
--- ## Rings
-
-module _ (t : Ports) (hs : List HopRow) where
-  pub ring_none : FirstPort (λ (x : PortRow). x.progress ≡ Waiting) (rows t) None
-      → (r : Records) (worth : List Load → ℕ) (ls : List LinkRow) → Setting r worth → Stuck r worth (rows t) ls hs → RingTold r None
-  ring_none none r worth ls s k = none_waits r worth s (rows t) ls hs k none
-
-  pub ring_searched : (u : Ports) (a : Option ℕ) → FindsRing hs t u a
-      → (r : Records) (worth : List Load → ℕ) (ls : List LinkRow) → Setting r worth → Stuck r worth (rows t) ls hs → RingTold r a
-  ring_searched u a finds r worth ls s k =
-      finds.told r s.well_formed k.worked.held.ports k.worked.held.hops
+use Rattle.working_out.proofs.Judging.{lowest_past, settled, shown}
 
 -- ## Judging
-
-err_ok : {Y : Type 0} (e : Refusal) → ◌≡◌ {A = Result (Unit {0}) Refusal} (Err e) (Ok tt) → Y
-err_ok e h = let z : ◌≡◌ {A = ℕ} 0 1 = cc in absurd (omega arith)
-
-ok_of : (o : Result (Unit {0}) Refusal) → is_err o ≡ false → o ≡ Ok tt
-ok_of (Ok u) h = refl
-ok_of (Err e) h = absurd (false≢true (sym h))
 
 module _ (t u : Ports) (hs : List HopRow) (marks : Remarked t u)
     (r : Records) (worth : List Load → ℕ) (ls : List LinkRow) (s : Setting r worth) (k : Stuck r worth (rows t) ls hs) where
@@ -67,7 +46,7 @@ module _ (t u : Ports) (hs : List HopRow) (marks : Remarked t u)
     told = refl;
     comes = λ n le. (le, s.carried, told);
     held = still_held;
-    shown = λ e. err_ok (PortInRing p) e;
+    shown = λ e. cc;
   }
 
   module _ (free : RingTold r None) where
@@ -83,7 +62,7 @@ module _ (t u : Ports) (hs : List HopRow) (marks : Remarked t u)
       told = refl;
       comes = λ n le. (le, s.carried, free, (F, f, lowest_past r worth s (rows t) ls hs k free F f (Some p) first));
       held = still_held;
-      shown = λ e. err_ok (FigurePastLimit p) e;
+      shown = λ e. cc;
     }
 
     module _ (none : FirstPort (λ (x : PortRow). x.progress ≡ PastLimit) (rows t) None) where
@@ -160,50 +139,40 @@ module _ (worth : List Load → ℕ) (law : Lawful worth) (n : ℕ) (p : Ports) 
     held : Holds (net (rows p) (rows l) (rows h)) (rows q) (rows l) (rows k)
     held = cleared_held p h q k c (net (rows p) (rows l) (rows h)) (rows l) record { ports = refl; links = refl; hops = refl }
 
-    hop_count : length r.hops ≡ length (rows k)
-    hop_count = ap length (sym held.hops) ∙ length-map (rows k) (λ (y : HopRow). y.hop)
-
     pub works_short : n < length (rows k) → Works r worth n (rows q) (rows l) (rows k) (Err LoadTableShort)
-    works_short less = record { outcome = short; comes = omega (arith, less, hop_count); answer = refl; held = held; left = cleared_zero p h q k c }
+    works_short less = record { outcome = short; comes = omega (arith, less, hop_count held); answer = refl; held = held; left = cleared_zero p h q k c }
 
-    module _ (ps : List PortRow) (hs : List HopRow) (all-ports : ps ≡ rows q) (all-hops : hs ≡ rows k) (room : length (rows k) ≤ n) where
-      told : (a : Option ℕ) → (FirstPort (OverloadedRow (rows l) hs) ps a) → LowestTold r (OverloadedAt r) a
-      told a first = overload_told p h q k c r wf l held a
-          (subst (λ (zs : List PortRow). FirstPort (OverloadedRow (rows l) (rows k)) zs a) all-ports (subst (λ (zs : List HopRow). FirstPort (OverloadedRow (rows l) zs) ps a) all-hops first))
+    module _ (room : length (rows k) ≤ n) where
+      told : (a : Option ℕ) → (FirstPort (OverloadedRow (rows l) (rows k)) (rows q) a) → LowestTold r (OverloadedAt r) a
+      told = overload_told p h q k c r wf l held
 
-      pub works_overloaded : (x : ℕ) → (FirstPort (OverloadedRow (rows l) hs) ps (Some x))
+      pub works_overloaded : (x : ℕ) → (FirstPort (OverloadedRow (rows l) (rows k)) (rows q) (Some x))
           → Works r worth n (rows q) (rows l) (rows k) (Err (PortOverloaded x))
-      works_overloaded x first = record { outcome = overloaded x; comes = (omega (arith, room, hop_count), told (Some x) first); answer = refl; held = held; left = cleared_zero p h q k c }
+      works_overloaded x first = record { outcome = overloaded x; comes = (omega (arith, room, hop_count held), told (Some x) first); answer = refl; held = held; left = cleared_zero p h q k c }
 
-      module _ (first : FirstPort (OverloadedRow (rows l) hs) ps None) (u v : Ports) (m : Hops) (o : Result (Unit {0}) Refusal)
+      module _ (first : FirstPort (OverloadedRow (rows l) (rows k)) (rows q) None) (u v : Ports) (m : Hops) (o : Result (Unit {0}) Refusal)
           (stuck : (r : Records) → Setting r worth → Worked r worth (rows q) (rows l) (rows k) → Stuck r worth (rows u) (rows l) (rows m))
-          (ms : List HopRow) (all : ms ≡ rows m)
-          (judged : (r : Records) (worth : List Load → ℕ) (ls : List LinkRow) → Setting r worth → Stuck r worth (rows u) ls ms → Judged r worth (rows v) ls ms o) where
+          (judged : (r : Records) (worth : List Load → ℕ) (ls : List LinkRow) → Setting r worth → Stuck r worth (rows u) ls (rows m) → Judged r worth (rows v) ls (rows m) o) where
         verdict : Judged r worth (rows v) (rows l) (rows m) o
         verdict =
             let s : Setting r worth = record { well_formed = wf; lawful = law; carried = told None first } in
             let start = unworked r worth (rows q) (rows l) (rows k) held (cleared_open p h q k c) in
-            subst (λ (zs : List HopRow). Judged r worth (rows v) (rows l) zs o) all
-            (judged r worth (rows l) s (subst (Stuck r worth (rows u) (rows l)) (sym all) (stuck r s start)))
+            judged r worth (rows l) s (stuck r s start)
 
         pub works_refused : is_err o ≡ true → (w : Ports) (j : Hops) → Cleared v m w j → Works r worth n (rows w) (rows l) (rows j) o
         works_refused is w j again = record {
           outcome = verdict.outcome;
-          comes = verdict.comes n (omega (arith, room, hop_count));
+          comes = verdict.comes n (omega (arith, room, hop_count held));
           answer = verdict.told;
           held = cleared_held v m w j again r (rows l) verdict.held;
           left = zero_left verdict.outcome (sym (ap is_err verdict.told) ∙ is);
         }
           where
             zero_left : (x : Outcome) → is_err (result_of x) ≡ true → FiguresLeft r worth (rows w) (rows j) x
-            zero_left settles f = absurd (false≢true f)
-            zero_left short f = cleared_zero v m w j again
-            zero_left (overloaded y) f = cleared_zero v m w j again
-            zero_left (ring y) f = cleared_zero v m w j again
-            zero_left (past y) f = cleared_zero v m w j again
+            zero_left x f = grind (arith, cleared_zero v m w j again)
 
         pub works_settled : is_err o ≡ false → Works r worth n (rows v) (rows l) (rows m) o
         works_settled is =
-            let well = ok_of o is in
+            let well : o ≡ Ok tt = grind arith in
             let (G, done, figures) = verdict.shown well in
-            record { outcome = settles; comes = (omega (arith, room, hop_count), (G, done)); answer = well; held = verdict.held; left = (G, done, figures) }
+            record { outcome = settles; comes = (omega (arith, room, hop_count held), (G, done)); answer = well; held = verdict.held; left = (G, done, figures) }

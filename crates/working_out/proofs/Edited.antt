@@ -1,42 +1,25 @@
 -- Changing the rows of a table, place by place, under their keys.
-use Rattle.std.proofs.Common.{◌≡◌, ℕ, zero, suc, ◌+◌, ◌<◌, ◌≤◌, Bool, true, false, List, [], ◌∷◌, ◌++◌, map, length, get_or, take, drop, set, Some, None, Ok, Err, Option, sym, refl, ap, ◌∙◌, inl, inr, arith, length-set}
+use Rattle.std.proofs.Common.{◌≡◌, ℕ, zero, suc, ◌+◌, ◌<◌, ◌≤◌, Bool, true, List, [], ◌∷◌, ◌++◌, map, length, get_or, take, drop, set, Some, Ok, Err, sym, refl, ap, ◌∙◌, inl, inr, arith}
 use Rattle.std.specs.List.{slice_get}
-use Rattle.std.proofs.lemmas.List.{take_all, drop_all, append-nil}
 use Rattle.std.proofs.lemmas.List.Edits.{map_over_more}
-use Rattle.std.proofs.lemmas.Option.{slice_get-get_or}
+use Rattle.std.proofs.lemmas.Grind.{common_steps}
+use Rattle.std.proofs.lemmas.Option.{slice_get_within, get_or_from_slice_get, gets}
 use Rattle.register.specs.Tables.{TableBy, rows, room, by_key, Found, Replacing}
 use Rattle.std.proofs.lemmas.Bool.{and_parts}
 use Rattle.definitions.specs.Lists.{In, every, ascending}
 use Rattle.register.specs.Orders.{ExactlyOne}
-use Rattle.register.proofs.Exits.{some_within}
 use Rattle.register.proofs.Sorted.{before_apart, getD_in, none_under}
 use Rattle.theory.proofs.Lookups.{in_every}
 use Rattle.working_out.proofs.Under.{under_here, under_other}
 use Rattle.working_out.specs.Edits.{KeepsKey, EditsAll, EditsUnder, edited_under}
 
-some_same : {X : Type 0} (o : Option X) (a b : X) → o ≡ Some a → o ≡ Some b → a ≡ b
-some_same o a b e f = cc
-
-none_some : {X : Type 0} (o : Option X) (a : X) → o ≡ None → o ≡ Some a → ⊥
-none_some o a e f = let z : ◌≡◌ {A = ℕ} 0 1 = cc in omega arith
-
-pub read_at : {X : Type 0} (xs : List X) (i : ℕ) (a d : X) → Some a ≡ slice_get xs i → get_or xs i d ≡ a
-read_at xs i a d e = some_same (slice_get xs i) (get_or xs i d) a (slice_get-get_or xs i d (some_within xs i a e)) (sym e)
-
--- there is an item at every place before the last
-pub item_there : {X : Type 0} (xs : List X) (i : ℕ) → i < length xs → None ≡ slice_get xs i → ⊥
-item_there [] i l e = omega (arith, l)
-item_there (x ∷ xs) i l e = none_some (slice_get (x ∷ xs) i) (get_or (x ∷ xs) i x) (sym e) (slice_get-get_or (x ∷ xs) i x l)
-
 module _ {R K : Type 0} (lt : K → K → Bool) (key : R → K) where
   -- a replacement, made or not, leaves the places and the count
   pub room_replaced : (i : ℕ) (y : R) (t u : TableBy lt key) (b : Bool) → Replacing lt key i y t u b → room u ≡ room t
-  room_replaced i y t u true h = h.0
-  room_replaced i y t u false h = ap room h.0
+  room_replaced i y t u b h = grind arith
 
   pub length_replaced : (i : ℕ) (y : R) (t u : TableBy lt key) (b : Bool) → Replacing lt key i y t u b → length (rows u) ≡ length (rows t)
-  length_replaced i y t u true h = ap length h.3 ∙ length-set (rows t) i y
-  length_replaced i y t u false h = ap (λ (x : TableBy lt key). length (rows x)) h.0
+  length_replaced i y t u b h = grind (arith, common_steps)
 
   -- the rows before the place i are changed by f, the others as they were
   abbrev pub Changed : (R → R) → TableBy lt key → ℕ → TableBy lt key → Type 0
@@ -44,16 +27,14 @@ module _ {R K : Type 0} (lt : K → K → Bool) (key : R → K) where
 
   pub same_key : (f : R → R) → KeepsKey key f → (u v : TableBy lt key) (i : ℕ) (x y : R) (b : Bool)
       → Some x ≡ slice_get (rows u) i → y ≡ f x → Replacing lt key i y u v b → rows v ≡ set (rows u) i (f x)
-  same_key f same u v i x y true is e h = h.3 ∙ ap (set (rows u) i) e
-  same_key f same u v i x y false is e (left, other) =
-      absurd (other (some_within (rows u) i x is) (ap key (read_at (rows u) i x y is) ∙ sym (same x) ∙ ap key (sym e)))
+  same_key f same u v i x y b is e h = grind (arith, gets, same x)
 
   pub one_changed : (f : R → R) (t u v : TableBy lt key) (i : ℕ) (x y : R) (b : Bool)
       → Some x ≡ slice_get (rows u) i → y ≡ f x → Changed f t i u → Replacing lt key i y u v b → Changed f t (i + 1) v
   one_changed f t u v i x y b is e (room, rows_are, long) h = (
     room_replaced i y u v b h ∙ room,
     λ same. same_key f same u v i x y b is e h
-        ∙ map_over_more f (rows t) (rows u) i x (omega (arith, some_within (rows u) i x is, long)) (rows_are same) (sym (read_at (rows u) i x x is)),
+        ∙ map_over_more f (rows t) (rows u) i x (omega (arith, slice_get_within (rows u) i x (sym is), long)) (rows_are same) (sym (get_or_from_slice_get (rows u) i x x (sym is))),
     length_replaced i y u v b h ∙ long,
   )
 
@@ -61,7 +42,7 @@ module _ {R K : Type 0} (lt : K → K → Bool) (key : R → K) where
   pub all_changed : (f : R → R) (t u : TableBy lt key) (i : ℕ) → length (rows t) ≤ i → Changed f t i u → EditsAll lt key f t u
   all_changed f t u i le (room, rows_are, long) = record {
     same_room = room;
-    edited = λ same. rows_are same ∙ ap (λ xs. map f xs ++ drop i (rows t)) (take_all i (rows t) le) ∙ ap (λ xs. map f (rows t) ++ xs) (drop_all i (rows t) le) ∙ append-nil (map f (rows t));
+    edited = λ same. grind (arith, common_steps, rows_are same);
   }
 
 -- ## The row under a key
@@ -91,7 +72,7 @@ module _ {R K : Type 0} (lt : K → K → Bool) (key : R → K) (tri : (a b : K)
     same_room = room_replaced lt key i y t u b h;
     edited = λ same.
         same_key lt key f same t u i x y b is e h
-        ∙ ap (λ z. set (rows t) i (f z)) (sym (read_at (rows t) i x x is))
+        ∙ ap (λ z. set (rows t) i (f z)) (sym (get_or_from_slice_get (rows t) i x x (sym is)))
         ∙ set_under lt key tri k f (rows t) i x t.ascends found.0 (found.1 x);
   }
 

@@ -1,12 +1,9 @@
 -- Gathering the loads of a port.
-use Rattle.std.proofs.Common.{◌≡◌, ℕ, ◌+◌, ◌<◌, ◌≤◌, true, cond, eqb, List, [], ◌∷◌, ◌++◌, map, length, get_or, take, drop, set, Some, None, Option, MatchOption, filter, sym, refl, ap, ◌∙◌, subst, inl, inr, arith}
+use Rattle.std.proofs.Common.{◌≡◌, ℕ, ◌+◌, ◌<◌, true, List, [], ◌∷◌, ◌++◌, map, length, get_or, take, drop, Some, None, Option, MatchOption, sym, refl, ap, ◌∙◌, subst, inl, inr, arith}
 use Rattle.std.specs.List.{AllByRecursion, AllWithin, HoldsAt}
 use Rattle.working_out.specs.declared.rows.PortRow.{PortRow}
-use Rattle.std.proofs.lemmas.List.{take_more_set, map-append, append-nil, take_all, drop_more, take-append-drop}
-use Rattle.std.proofs.lemmas.List.Elements.{filter_more}
-use Rattle.std.proofs.lemmas.Bool.{eq-eqb, ne_eqb}
-use Rattle.definitions.specs.declared.loads.Load.{Load}
-use Rattle.definitions.specs.declared.network.Port.{Port}
+use Rattle.std.proofs.lemmas.List.{drop_more, take-append-drop}
+use Rattle.std.proofs.lemmas.Bool.{ne_eqb}
 use Rattle.definitions.specs.declared.network.VirtualLink.{VirtualLink}
 use Rattle.definitions.specs.Lists.{ascending}
 use Rattle.register.specs.Tables.{by_key, Getting}
@@ -14,9 +11,8 @@ use Rattle.register.proofs.Searching.{all_before}
 use Rattle.theory.proofs.Members.{in_map}
 use Rattle.theory.proofs.Lookups.{find_in}
 use Rattle.working_out.specs.declared.rows.LinkRow.{LinkRow}
-use Rattle.working_out.specs.declared.rows.HopRow.{HopRow}
 use Rattle.working_out.specs.Keys.{number_before, link_key}
-use Rattle.working_out.specs.Gathering.{link_under, row_load, loads_at, Gathers, FirstIs}
+use Rattle.working_out.specs.Gathering.{link_under, FirstIs}
 use Rattle.working_out.proofs.Tabled.{links_ascend}
 
 link_found : (n : ℕ) (xs : List LinkRow) (row : LinkRow) → ascending (by_key number_before link_key) xs ≡ true → Getting link_key xs n (Some row)
@@ -34,52 +30,6 @@ pub link_told : (n : ℕ) (xs : List LinkRow) → ascending (by_key number_befor
     → (r : LinkRow) → MatchOption o (r.link ≡ record { number = 0; gap = 0; shortest = 0; longest = 0 }) (λ x. r ≡ x) → r.link ≡ link_under xs n
 link_told n xs up (Some row) got r is = ap (λ (x : LinkRow). x.link) is ∙ link_found n xs row up got
 link_told n xs up None got r is = is ∙ link_unfound n xs got
-
-loads_more : (rs : List LinkRow) (p : Port) (hs : List HopRow) (i : ℕ) (d : HopRow) → i < length hs
-    → loads_at rs p (take (i + 1) hs)
-    ≡ loads_at rs p (take i hs) ++ map (λ (h : HopRow). row_load p (link_under rs h.hop.link) h) (cond (eqb (get_or hs i d).hop.port p.number) (get_or hs i d ∷ []) [])
-loads_more rs p hs i d lt =
-    ap (map (λ (h : HopRow). row_load p (link_under rs h.hop.link) h)) (filter_more (λ (h : HopRow). eqb h.hop.port p.number) hs i d lt)
-    ∙ map-append _ (filter (λ (h : HopRow). eqb h.hop.port p.number) (take i hs)) _
-
--- what stands after the hops before the place i
-abbrev pub SoFar : List LinkRow → Port → List HopRow → ℕ → List Load → ℕ → Type 0
-SoFar rs p hs i ls n = (n ≤ i) × (take n ls ≡ loads_at rs p (take i hs))
-
--- a hop at the port brings one load more
-pub one_more : (rs : List LinkRow) (p : Port) (hs : List HopRow) (i : ℕ) (d : HopRow) (ls : List Load) (n : ℕ) (x : Load) (l : VirtualLink)
-    → length hs ≤ length ls → i < length hs → (get_or hs i d).hop.port ≡ p.number
-    → l ≡ link_under rs (get_or hs i d).hop.link → x ≡ row_load p l (get_or hs i d)
-    → SoFar rs p hs i ls n → SoFar rs p hs (i + 1) (set ls n x) (n + 1)
-one_more rs p hs i d ls n x l room lt at-port is e (most, so_far) =
-    let fits : n < length ls = omega (arith, room, lt, most) in (
-      omega (arith, most),
-      take_more_set ls n x fits
-          ∙ ap (λ zs. zs ++ (x ∷ [])) so_far
-          ∙ ap (λ y. loads_at rs p (take i hs) ++ (y ∷ [])) (e ∙ ap (λ m. row_load p m (get_or hs i d)) is)
-          ∙ sym (loads_more rs p hs i d lt
-          ∙ ap (λ b. loads_at rs p (take i hs) ++ map (λ (h : HopRow). row_load p (link_under rs h.hop.link) h) (cond b (get_or hs i d ∷ []) []))
-          (eq-eqb (get_or hs i d).hop.port p.number at-port)),
-    )
-
--- another hop brings none
-pub none_more : (rs : List LinkRow) (p : Port) (hs : List HopRow) (i : ℕ) (d : HopRow) (ls : List Load) (n : ℕ)
-    → i < length hs → ¬ ((get_or hs i d).hop.port ≡ p.number)
-    → SoFar rs p hs i ls n → SoFar rs p hs (i + 1) ls n
-none_more rs p hs i d ls n lt elsewhere (most, so_far) = (
-  omega (arith, most),
-  so_far ∙ sym (loads_more rs p hs i d lt
-      ∙ ap (λ b. loads_at rs p (take i hs) ++ map (λ (h : HopRow). row_load p (link_under rs h.hop.link) h) (cond b (get_or hs i d ∷ []) []))
-      (ne_eqb (get_or hs i d).hop.port p.number elsewhere)
-      ∙ append-nil _),
-)
-
-pub all_gathered : (rs : List LinkRow) (p : Port) (hs : List HopRow) (i : ℕ) (ls : List Load) (n : ℕ) → length hs ≤ i → i ≤ length hs
-    → SoFar rs p hs i ls n → Gathers rs hs p ls n
-all_gathered rs p hs i ls n le ge (most, so_far) = record {
-  within = omega (arith, le, ge, most);
-  loads = so_far ∙ ap (loads_at rs p) (take_all i hs le);
-}
 
 -- the first row of which P holds stands after rows of which it does not
 pub first_here : (P : PortRow → Type 0) (ps : List PortRow) (i : ℕ) (d : PortRow) → i < length ps → AllByRecursion (λ x. ¬ P x) (take i ps) → P (get_or ps i d)

@@ -1,5 +1,5 @@
 -- What is said of ports of which no more can be worked out.
-use Rattle.std.proofs.Common.{◌≡◌, ℕ, ◌⊎◌, List, Option, sym, refl, ap, ◌∙◌, subst, inl, inr}
+use Rattle.std.proofs.Common.{◌≡◌, ℕ, ◌⊎◌, List, Option, sym, refl, ap, ◌∙◌, subst, inl, inr, arith}
 use Rattle.std.specs.List.{AllByRecursion}
 use Rattle.definitions.specs.declared.loads.Load.{Load}
 use Rattle.definitions.specs.declared.network.Port.{Port}
@@ -7,7 +7,7 @@ use Rattle.definitions.specs.Lists.{In}
 use Rattle.definitions.specs.Network.{Records, Feeds, direct, through, InRing}
 use Rattle.definitions.specs.Figures.{Figures, FiguresOf, Past, Settled, depth, earliest_at, latest_at}
 use Rattle.definitions.specs.WorkingOut.{PortOf, NoPort, FirstPast}
-use Rattle.theory.proofs.Members.{in_map, in_all, all_in}
+use Rattle.theory.proofs.Members.{in_all, all_in}
 use Rattle.theory.proofs.Keys.{after_port, hop_port}
 use Rattle.theory.proofs.Order.{by_feeding}
 use Rattle.working_out.specs.declared.rows.Progress.{Progress}
@@ -19,29 +19,20 @@ use Rattle.working_out.specs.Gathering.{FirstPort}
 use Rattle.working_out.specs.Settling.{Setting, Tried, DoneAt, Stuck}
 use Rattle.working_out.specs.Rings.{LowestTold}
 use Rattle.working_out.specs.Works.{Shown}
-use Rattle.working_out.proofs.RowLists.{map_in}
+use Rattle.working_out.proofs.Held.{port_in, hop_in, port_row}
 use Rattle.working_out.proofs.Tabled.{ports_ordered, one_row}
 use Rattle.working_out.proofs.Fed.{last_step, goes_back}
 use Rattle.working_out.proofs.FirstPorts.{first_lowest}
 
 -- the progress of a row, by cases
 cases_progress : (p : Progress) → (p ≡ Open) ⊎ ((p ≡ Waiting) ⊎ ((p ≡ WorkedOut) ⊎ (p ≡ PastLimit)))
-cases_progress Open = inl refl
-cases_progress Waiting = inr (inl refl)
-cases_progress WorkedOut = inr (inr (inl refl))
-cases_progress PastLimit = inr (inr (inr refl))
+cases_progress p = grind arith
 
 module _ (r : Records) (worth : List Load → ℕ) (s : Setting r worth) (ps : List PortRow) (ls : List LinkRow) (hs : List HopRow) (k : Stuck r worth ps ls hs) where
-  row_of : (p : Port) → In p r.ports → (x : PortRow) × In x ps × (p ≡ x.port)
-  row_of p i = map_in (λ (x : PortRow). x.port) ps p (subst (In p) (sym k.worked.held.ports) i)
-
-  in_ports : (x : PortRow) → In x ps → In x.port r.ports
-  in_ports x i = subst (In x.port) k.worked.held.ports (in_map (λ (z : PortRow). z.port) ps x i)
-
   -- without a port that waits there is no ring
   pub none_waits : AllByRecursion (λ (x : PortRow). ¬ (x.progress ≡ Waiting)) ps → NoPort r (InRing r)
   none_waits none p i =
-      let (x, j, e) = row_of p i in
+      let (x, j, e) = port_row k.worked.held p i in
       subst (λ (q : Port). ¬ InRing r q.number) (sym e) (elim (cases_progress x.progress) [
         | inl open' ↦ absurd (k.none_open x j open')
         | inr (inl waits) ↦ absurd (in_all (λ (z : PortRow). ¬ (z.progress ≡ Waiting)) ps none x j waits)
@@ -71,7 +62,7 @@ module _ (r : Records) (worth : List Load → ℕ) (s : Setting r worth) (ps : L
       where
         step : (n : ℕ) → ((q : ℕ) → Feeds r q n → PortOf r q → HeldUpBy q) → PortOf r n → HeldUpBy n
         step n before (p, i, e) =
-            let (x, j, same) = row_of p i in
+            let (x, j, same) = port_row k.worked.held p i in
             let number : x.port.number ≡ n = ap (λ (q : Port). q.number) (sym same) ∙ e in
             elim (cases_progress x.progress) [
               | inl open' ↦ absurd (k.none_open x j open')
@@ -96,11 +87,11 @@ module _ (r : Records) (worth : List Load → ℕ) (s : Setting r worth) (ps : L
 
     -- and the other way round
     first_back : (x : PortRow) → In x ps → FirstPast r F x.port.number → x.progress ≡ PastLimit
-    first_back x i first = elim (each x.port.number (x.port, in_ports x i, refl)) [
+    first_back x i first = elim (each x.port.number (x.port, port_in k.worked.held x i, refl)) [
       | inl d ↦ absurd (done_within x.port.number d first.past_limit)
       | inr (z, j, over, inl same) ↦
           ap (λ (w : PortRow). w.progress) (one_row ps (ports_ordered r s.well_formed ps ls hs k.worked.held) x z i j (sym same)) ∙ over
-      | inr (z, j, over, inr g) ↦ absurd (first.unfed z.port (in_ports z j) (k.worked.past_ports F f z j over) g)
+      | inr (z, j, over, inr g) ↦ absurd (first.unfed z.port (port_in k.worked.held z j) (k.worked.past_ports F f z j over) g)
     ]
 
     -- so that the first row past the limit is that of the lowest such port
@@ -112,7 +103,7 @@ module _ (r : Records) (worth : List Load → ℕ) (s : Setting r worth) (ps : L
       all_done : (n : ℕ) → PortOf r n → DoneAt ps n
       all_done n p = elim (each n p) [
         | inl d ↦ d
-        | inr (z, j, over, how) ↦ absurd (none z.port (in_ports z j) (first_here z j over))
+        | inr (z, j, over, how) ↦ absurd (none z.port (port_in k.worked.held z j) (first_here z j over))
       ]
 
       pub settled : Settled r worth F
@@ -125,7 +116,7 @@ module _ (r : Records) (worth : List Load → ℕ) (s : Setting r worth) (ps : L
 
       done_row : (x : PortRow) → In x ps → x.progress ≡ WorkedOut
       done_row x i =
-          let d = all_done x.port.number (x.port, in_ports x i, refl) in
+          let d = all_done x.port.number (x.port, port_in k.worked.held x i, refl) in
           ap (λ (w : PortRow). w.progress) (one_row ps (ports_ordered r s.well_formed ps ls hs k.worked.held) x d.row i d.there (sym d.number)) ∙ d.holds
 
       pub shown : Shown r F ps hs
@@ -134,7 +125,7 @@ module _ (r : Records) (worth : List Load → ℕ) (s : Setting r worth) (ps : L
             (λ x i. let right = k.worked.right_ports F f x i (done_row x i) in (right.backlog, right.depth_is));
         hops = all_in (λ (y : HopRow). (y.earliest ≡ earliest_at F y.hop) × (y.latest ≡ latest_at F y.hop)) hs
             (λ y i.
-            let in_hops : In y.hop r.hops = subst (In y.hop) k.worked.held.hops (in_map (λ (z : HopRow). z.hop) hs y i) in
+            let in_hops : In y.hop r.hops = hop_in k.worked.held y i in
             let d = all_done y.hop.port (hop_port r s.well_formed y.hop in_hops) in
             let right = k.worked.right_hops F f y i record { row = d.row; there = d.there; number = d.number; holds = inl d.holds } in
             (right.earliest, right.latest));

@@ -1,5 +1,6 @@
 pub mod Tabled
 pub mod RowLists
+pub mod Held
 pub mod Under
 pub mod Edited
 pub mod Gathered

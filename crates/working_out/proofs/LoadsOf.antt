@@ -18,7 +18,7 @@ module _ (r : Records) (wf : WellFormed r) (F : Figures) (ps : List PortRow) (ls
   each : (y : HopRow) → y.hop.port ≡ x.port.number → (y.earliest ≡ earliest_at F y.hop) × (y.latest ≡ latest_at F y.hop)
       → row_load x.port (link_under ls y.hop.link) y ≡ load_of r F y.hop
   each y at (e, l) =
-      let port : x.port ≡ find_port r.ports y.hop.port = sym (row_port r wf ps held.ports x there) ∙ ap (find_port r.ports) (sym at) in
+      let port : x.port ≡ find_port r.ports y.hop.port = sym (row_port wf held x there) ∙ ap (find_port r.ports) (sym at) in
       let link : link_under ls y.hop.link ≡ find_link r.links y.hop.link = ap (λ zs. find_link zs y.hop.link) held.links in
       ap (λ (p : Port). row_load p (link_under ls y.hop.link) y) port
       ∙ ap (λ (k : VirtualLink). row_load (find_port r.ports y.hop.port) k y) link

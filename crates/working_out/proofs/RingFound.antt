@@ -6,20 +6,18 @@ use Rattle.std.proofs.Common.{◌≡◌, ℕ, ◌+◌, ◌<◌, ◌≤◌, Bool,
 use Rattle.std.specs.List.{AllByRecursion, slice_get}
 use Rattle.std.proofs.ByRecursion.{All-more}
 use Rattle.std.proofs.lemmas.List.{get_or-map, length-map, take_all}
-use Rattle.std.proofs.lemmas.Bool.{both_ways}
+use Rattle.std.proofs.lemmas.Option.{slice_get_within, get_or_from_slice_get}
 use Rattle.definitions.specs.declared.network.Port.{Port}
 use Rattle.definitions.specs.Lists.{In}
 use Rattle.definitions.specs.Network.{Records, WellFormed, Feeds, direct, through}
 use Rattle.theory.proofs.Members.{in_map}
 use Rattle.theory.proofs.Keys.{hop_port}
 use Rattle.register.specs.Tables.{rows}
-use Rattle.register.proofs.Exits.{some_within}
 use Rattle.working_out.specs.declared.rows.PortRow.{PortRow}
 use Rattle.working_out.specs.declared.rows.HopRow.{HopRow}
 use Rattle.working_out.specs.Keys.{port_key, Ports}
 use Rattle.working_out.specs.Gathering.{FirstPort}
 use Rattle.working_out.specs.Rings.{unmarked, Remarked, FedBy, Homed, FeedsItself, FindsRing}
-use Rattle.working_out.proofs.Edited.{read_at, item_there}
 use Rattle.working_out.proofs.Gathered.{first_here}
 use Rattle.working_out.proofs.RowLists.{map_in}
 use Rattle.working_out.proofs.RingMarks.{same_of_marks, remarked_on, homed_of_marks}
@@ -63,22 +61,16 @@ number_at : (xs ys : List PortRow) → map unmarked ys ≡ map unmarked xs → (
 number_at xs ys e i y d lt is =
     sym (get_or-map port_key xs i d 0 lt)
     ∙ ap (λ ns. get_or ns i 0) (sym (same_of_marks port_key (λ x. refl) xs ys e))
-    ∙ get_or-map port_key ys i d 0 (some_within ys i y is)
-    ∙ ap port_key (read_at ys i y d is)
+    ∙ get_or-map port_key ys i d 0 (slice_get_within ys i y (sym is))
+    ∙ ap port_key (get_or_from_slice_get ys i y d (sym is))
 
 same_length : (xs ys : List PortRow) → map unmarked ys ≡ map unmarked xs → length ys ≡ length xs
 same_length xs ys e = sym (length-map ys unmarked) ∙ ap length e ∙ length-map xs unmarked
 
 module _ (hs : List HopRow) (t u : Ports) (i : ℕ) (none : NoneBefore hs t i u) where
-  -- in a table in order there is a row at every place before the last
-  pub no_row : i < length (rows t) → None ≡ slice_get (rows u) i → FindsRing hs t u None
-  no_row lt e =
-      ring_told hs t u None none.0
-      (λ h. absurd (item_there (rows u) i (omega (arith, lt, same_length (rows t) (rows u) none.0.marks_only)) e))
-
   module _ (v : Ports) (row : PortRow) (is : Some row ≡ slice_get (rows u) i) where
     within : i < length (rows t)
-    within = omega (arith, some_within (rows u) i row is, same_length (rows t) (rows u) none.0.marks_only)
+    within = omega (arith, slice_get_within (rows u) i row (sym is), same_length (rows t) (rows u) none.0.marks_only)
 
     here : port_key (get_or (rows t) i row) ≡ port_key row
     here = number_at (rows t) (rows u) none.0.marks_only i row row within is
@@ -92,7 +84,7 @@ module _ (hs : List HopRow) (t u : Ports) (i : ℕ) (none : NoneBefore hs t i u)
     pub none_here : FeedsItself hs (port_key row) u v false → NoneBefore hs t (i + 1) v
     none_here tried = (
       remarked_on t u v none.0 tried.remarked,
-      λ h. All-more (λ x. ¬ SelfFed hs x) (rows t) i row within (none.1 h) (λ f. both_ways false refl ((told_here false tried h).1 f)),
+      λ h. All-more (λ x. ¬ SelfFed hs x) (rows t) i row within (none.1 h) (λ f. cc ((told_here false tried h).1 f)),
     )
 
     -- it does

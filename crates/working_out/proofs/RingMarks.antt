@@ -1,21 +1,18 @@
 -- RingMarks: the ports that a port feeds, marked in their rows.
 use Rattle.std.proofs.Common.{◌≡◌, ℕ, ◌+◌, ◌<◌, ◌≤◌, Bool, true, false, cond, ◌||◌, List, [], ◌∷◌, ◌++◌, map, length, Some, None, Decides, Option, MatchOption, IsTrue, ◌↔◌, sym, refl, ap, ◌∙◌, subst, inl, inr, arith}
 use Rattle.std.specs.List.{AllByRecursion}
-use Rattle.std.proofs.lemmas.Bool.{both_ways}
 use Rattle.std.proofs.ByRecursion.{All-push}
-use Rattle.std.proofs.lemmas.Bool.Decides.{nat_tests}
 use Rattle.definitions.specs.declared.network.Hop.{Hop}
 use Rattle.definitions.specs.Lists.{In, ascending}
 use Rattle.definitions.specs.Network.{direct, through}
 use Rattle.theory.proofs.Members.{in_map, in_all, all_in, total_map, total_less}
-use Rattle.theory.proofs.Keys.{map_same}
 use Rattle.register.specs.Tables.{rows, by_key, Getting}
 use Rattle.working_out.specs.declared.rows.PortRow.{PortRow}
 use Rattle.working_out.specs.declared.rows.HopRow.{HopRow}
 use Rattle.working_out.specs.Keys.{number_before, port_key, Ports}
 use Rattle.working_out.specs.Edits.{EditsAll, edited_under}
 use Rattle.working_out.specs.Rings.{marked, unmarked, Remarked, Marked, unmarked_count, Marks, FedBy, Reached, Sound, Passed, Comes, Spreads, SpreadsAll, Homed, FeedsItself}
-use Rattle.working_out.proofs.RowLists.{map_in, map_twice, in_left, in_right}
+use Rattle.working_out.proofs.RowLists.{map_in, map_again, in_left, in_right}
 use Rattle.working_out.proofs.Tabled.{one_row}
 use Rattle.working_out.proofs.Under.{numbers_one, under_here, under_cases}
 
@@ -24,10 +21,7 @@ use Rattle.working_out.proofs.Under.{numbers_one, under_here, under_cases}
 -- what does not read the marks is the same of both
 pub same_of_marks : {Y : Type 0} (f : PortRow → Y) → ((x : PortRow) → f (unmarked x) ≡ f x)
     → (xs ys : List PortRow) → map unmarked ys ≡ map unmarked xs → map f ys ≡ map f xs
-same_of_marks f blind xs ys e = sym (unread ys) ∙ ap (map f) e ∙ unread xs
-  where
-    unread : (zs : List PortRow) → map f (map unmarked zs) ≡ map f zs
-    unread zs = map_twice unmarked f zs ∙ map_same (λ x. f (unmarked x)) f zs (λ x i. blind x)
+same_of_marks f blind xs ys e = sym (map_again f unmarked ys blind) ∙ ap (map f) e ∙ map_again f unmarked xs blind
 
 pub ports_of_marks : (xs ys : List PortRow) → map unmarked ys ≡ map unmarked xs
     → map (λ (x : PortRow). x.port) ys ≡ map (λ (x : PortRow). x.port) xs
@@ -60,10 +54,10 @@ homed_of_marks xs ys e hs homed h i =
 pub marked_by : (p : ℕ) (xs : List PortRow) → ascending (by_key number_before port_key) xs ≡ true → (o : Option PortRow) → Getting port_key xs p o
     → (b : Bool) → MatchOption o (b ≡ false) (λ row. b ≡ row.fed) → IsTrue b ↔ Marked xs p
 marked_by p xs up (Some row) (i, e) b is = (
-  λ t. (row, i, e, sym is ∙ t),
+  λ t. (row, i, e, cc),
   λ m. is ∙ ap (λ (x : PortRow). x.fed) (one_row xs up row m.0 i m.1 (e ∙ sym m.2)) ∙ m.3,
 )
-marked_by p xs up None none b is = (λ t. absurd (both_ways b is t), λ m. absurd (none m.0 m.1 m.2))
+marked_by p xs up None none b is = (λ t. cc, λ m. absurd (none m.0 m.1 m.2))
 
 -- a port that is not there, or marked already, is left
 pub left_none : (p : ℕ) (t : Ports) → (Getting port_key (rows t) p None) → Marks p t t false
@@ -82,30 +76,23 @@ abbrev after_mark : ℕ → PortRow → PortRow
 after_mark p = edited_under number_before port_key p (marked true)
 
 mark_only : (p : ℕ) (x : PortRow) → unmarked (after_mark p x) ≡ unmarked x
-mark_only p x = elim (under_cases number_before port_key numbers_one p (marked true) x) [
-  | inl e ↦ ap unmarked e
-  | inr (k, e) ↦ ap unmarked e
-]
+mark_only p x = grind arith
 
 marks_only_after : (p : ℕ) (xs : List PortRow) → map unmarked (map (after_mark p) xs) ≡ map unmarked xs
-marks_only_after p xs = map_twice (after_mark p) unmarked xs ∙ map_same (λ x. unmarked (after_mark p x)) unmarked xs (λ x i. mark_only p x)
+marks_only_after p xs = map_again unmarked (after_mark p) xs (mark_only p)
 
 abbrev weight : PortRow → ℕ
 weight x = cond x.fed 0 1
 
 lighter : (p : ℕ) (x : PortRow) → weight (after_mark p x) ≤ weight x
-lighter p x = elim (under_cases number_before port_key numbers_one p (marked true) x) [
-  | inl e ↦ omega (arith, ap weight e)
-  | inr (k, e) ↦ omega (arith, ap weight e)
-]
+lighter p x = grind arith
 
 -- a mark more is a row without a mark less
 one_less : (p : ℕ) (xs : List PortRow) (x : PortRow) → In x xs → port_key x ≡ p → x.fed ≡ false
     → unmarked_count (map (after_mark p) xs) < unmarked_count xs
 one_less p xs x i e f =
-    let here : weight (after_mark p x) ≡ 0 = ap weight (under_here number_before port_key numbers_one p (marked true) x e) in
-    let there : weight x ≡ 1 = ap (λ (b : Bool). cond b 0 1) f in
-    omega (arith, total_map weight (after_mark p) xs, total_less (λ y. weight (after_mark p y)) weight xs (λ y j. lighter p y) x i (omega (arith, here, there)))
+    let here : weight (after_mark p x) < weight x = grind (arith, under_here number_before port_key numbers_one p (marked true) x e) in
+    omega (arith, total_map weight (after_mark p) xs, total_less (λ y. weight (after_mark p y)) weight xs (λ y j. lighter p y) x i here)
 
 -- a hop after a port that is reached leads to a port that is fed
 fed_on : (hs : List HopRow) (p : ℕ) (xs : List PortRow) (h : HopRow) (q : ℕ) → Sound hs p xs → In h hs → h.hop.after ≡ Some q → Reached p xs q → FedBy hs p h.hop.port
@@ -120,10 +107,7 @@ fed_on hs p xs h q sound i a reached =
 sound_mark : (hs : List HopRow) (p n : ℕ) (xs : List PortRow) → Sound hs p xs → FedBy hs p n → Sound hs p (map (after_mark n) xs)
 sound_mark hs p n xs sound fed y i m =
     let (x, j, e) = map_in (after_mark n) xs y i in
-    elim (under_cases number_before port_key numbers_one n (marked true) x) [
-      | inl s ↦ subst (λ z. FedBy hs p (port_key z)) (sym (e ∙ s)) (sound x j (ap (λ (z : PortRow). z.fed) (sym (e ∙ s)) ∙ m))
-      | inr (k, s) ↦ subst (FedBy hs p) (sym (ap port_key (e ∙ s) ∙ k)) fed
-    ]
+    grind (arith, sound x j, under_cases number_before port_key numbers_one n (marked true) x)
 
 -- a hop that marks nothing
 spreads_none : (h : HopRow) (p : ℕ) (t : Ports) → (Passed p (rows t) h) → Spreads (h ∷ []) p t t false
@@ -148,8 +132,8 @@ spreads_next h p q t u false a reached (same, all) =
 comes_on : (hs : List HopRow) (h : HopRow) (p : ℕ) (t u v : Ports) (a b : Bool)
     → Comes hs p t u a → Comes (h ∷ []) p u v b → Comes (hs ++ (h ∷ [])) p t v (a || b)
 comes_on hs h p t u v true true less also = omega (arith, less, also)
-comes_on hs h p t u v true false less (same, passed) = omega (arith, less, ap (λ (x : Ports). unmarked_count (rows x)) same)
-comes_on hs h p t u v false true (same, passed) less = omega (arith, less, ap (λ (x : Ports). unmarked_count (rows x)) same)
+comes_on hs h p t u v true false less (same, passed) = grind arith
+comes_on hs h p t u v false true (same, passed) less = grind arith
 comes_on hs h p t u v false false (same, passed) (also, here) =
     (also ∙ same, All-push (Passed p (rows t)) hs h passed (subst (λ (x : Ports). Passed p (rows x) h) same here.0))
 
@@ -175,47 +159,23 @@ Spreading hs p t i u =
 -- no more rows are without a mark than there are
 few_unmarked : (xs : List PortRow) → unmarked_count xs ≤ length xs
 few_unmarked [] = omega arith
-few_unmarked (x ∷ xs) = let i = few_unmarked xs in grind (arith, nat_tests)
+few_unmarked (x ∷ xs) = grind (arith, few_unmarked xs)
 
 -- where no row is without a mark, all are marked
 all_marked : (xs : List PortRow) → unmarked_count xs ≡ 0 → (x : PortRow) → In x xs → x.fed ≡ true
 all_marked [] e x i = absurd i
-all_marked (y ∷ xs) e x (inl f) = ap (λ (z : PortRow). z.fed) f ∙ marked_first y.fed (omega (arith, e))
-  where
-    marked_first : (b : Bool) → ◌≡◌ {A = ℕ} (cond b 0 1) 0 → b ≡ true
-    marked_first true h = refl
-    marked_first false h = absurd (omega (arith, h))
-all_marked (y ∷ xs) e x (inr i) = all_marked xs (omega (arith, e)) x i
+all_marked (y ∷ xs) e x i = grind (arith, all_marked xs)
 
 pub spreading_none : (hs : List HopRow) (p : ℕ) (t : Ports) → Spreading hs p t 0 t
 spreading_none hs p t = (remarked_same t, λ old. old, omega (arith, few_unmarked (rows t)))
 
-module _ (hs : List HopRow) (p : ℕ) (t u : Ports) (i : ℕ) (so_far : Spreading hs p t i u) where
-  -- one pass more
-  pub spreading_on : (v : Ports) → Spreads hs p u v true → Spreading hs p t (i + 1) v
-  spreading_on v pass = (
-    remarked_on t u v so_far.0 pass.remarked,
-    λ old. pass.sound hs (λ h j. j) (so_far.1 old),
-    omega (arith, so_far.2, pass.comes),
-  )
-
-  -- a pass that adds nothing is the last
-  pub spread_last : (v : Ports) → Spreads hs p u v false → SpreadsAll hs p t v
-  spread_last v pass = record {
-    remarked = remarked_on t u v so_far.0 pass.remarked;
-    sound = λ old. pass.sound hs (λ h j. j) (so_far.1 old);
-    passed =
-        let (same, all) = pass.comes in
-        subst (λ (w : Ports). AllByRecursion (Passed p (rows w)) hs) (sym same) all;
-  }
-
-  -- after as many passes as there are rows all are marked
-  pub spread_out : length (rows t) ≤ i → SpreadsAll hs p t u
-  spread_out le = record {
-    remarked = so_far.0;
-    sound = so_far.1;
-    passed = all_in (Passed p (rows u)) hs (λ h j q a reached x k e. all_marked (rows u) (omega (arith, le, so_far.2)) x k);
-  }
+-- after as many passes as there are rows all are marked
+pub spread_out : (hs : List HopRow) (p : ℕ) (t u : Ports) (i : ℕ) → Spreading hs p t i u → length (rows t) ≤ i → SpreadsAll hs p t u
+spread_out hs p t u i so_far le = record {
+  remarked = so_far.0;
+  sound = so_far.1;
+  passed = all_in (Passed p (rows u)) hs (λ h j q a reached x k e. all_marked (rows u) (omega (arith, le, so_far.2)) x k);
+}
 
 -- ## Trying one port
 
@@ -223,10 +183,10 @@ module _ (hs : List HopRow) (p : ℕ) (t u : Ports) (i : ℕ) (so_far : Spreadin
 pub cleared : (hs : List HopRow) (p : ℕ) (t u : Ports) → EditsAll number_before port_key (marked false) t u → Remarked t u × Sound hs p (rows u)
 cleared hs p t u h =
     let is : rows u ≡ map unmarked (rows t) = h.edited (λ r. refl) in (
-      record { same_room = h.same_room; marks_only = ap (map unmarked) is ∙ map_twice unmarked unmarked (rows t) },
+      record { same_room = h.same_room; marks_only = ap (map unmarked) is ∙ map_again unmarked unmarked (rows t) (λ x. refl) },
       λ x i m.
           let (y, j, e) = map_in unmarked (rows t) x (subst (In x) is i) in
-          absurd (both_ways x.fed (ap (λ (z : PortRow). z.fed) e) m),
+          cc,
     )
 
 -- where every hop is passed, all that a reached port feeds is marked

@@ -1,10 +1,10 @@
 -- Rounds, from rows without figures until nothing more can be worked out.
-use Rattle.std.proofs.Common.{◌≡◌, ℕ, ◌≤◌, Bool, true, false, List, [], ◌∷◌, map, length, sym, refl, ap, ◌∙◌, subst, inl, inr, arith}
+use Rattle.std.proofs.Common.{◌≡◌, ℕ, ◌≤◌, Bool, true, false, List, [], ◌∷◌, map, length, sym, refl, subst, inl, inr, arith}
 use Rattle.definitions.specs.declared.loads.Load.{Load}
 use Rattle.definitions.specs.Lists.{In}
 use Rattle.definitions.specs.Network.{Records}
 use Rattle.register.specs.Tables.{rows}
-use Rattle.working_out.specs.declared.rows.Progress.TheVariants.{Open, Waiting, WorkedOut, PastLimit}
+use Rattle.working_out.specs.declared.rows.Progress.TheVariants.{Open}
 use Rattle.working_out.specs.declared.rows.PortRow.{PortRow}
 use Rattle.working_out.specs.declared.rows.LinkRow.{LinkRow}
 use Rattle.working_out.specs.declared.rows.HopRow.{HopRow}
@@ -13,7 +13,7 @@ use Rattle.working_out.specs.Edits.{EditsAll}
 use Rattle.working_out.specs.Marks.{opened}
 use Rattle.working_out.specs.Settling.{Setting, Holds, Tried, Worked, Known, Waits, Stuck, Advancing, Advance, SettlesFirst, RoundMakes, left_to_try, untried}
 use Rattle.working_out.proofs.RowLists.{map_in, in_total}
-use Rattle.working_out.proofs.Quieted.{apart, opened_quiet, opened_waits, untried_same, worked_quiet}
+use Rattle.working_out.proofs.Quieted.{opened_quiet, untried_same, worked_quiet}
 use Rattle.working_out.proofs.SettledTable.{settled_all}
 
 -- a round begins
@@ -23,7 +23,7 @@ begins r worth ps ls hs w = record {
   known = record { worked = worked_quiet opened opened_quiet ps r worth ls hs w; known = λ y j. absurd j };
   waits = λ z j waiting.
       let (x, k, e) = map_in opened ps z j in
-      absurd (opened_waits x.progress (ap (λ (w : PortRow). w.progress) (sym e) ∙ waiting));
+      absurd (grind arith);
   left = untried_same opened opened_quiet ps;
 }
 
@@ -41,28 +41,17 @@ ends r worth os ps qs ls hs ks false a s =
 
 -- ## All rounds
 
-one_at_most : (x : PortRow) → left_to_try x ≤ 1
-one_at_most x = elim x.progress as (λ p. elim p as (λ _. ℕ) [ Open ↦ 1 | Waiting ↦ 1 | WorkedOut ↦ 0 | PastLimit ↦ 0 ] ≤ 1) [
-  | Open ↦ omega arith
-  | Waiting ↦ omega arith
-  | WorkedOut ↦ omega arith
-  | PastLimit ↦ omega arith
-]
-
 pub untried_most : (ps : List PortRow) → untried ps ≤ length ps
 untried_most [] = omega arith
-untried_most (x ∷ xs) = omega (arith, one_at_most x, untried_most xs)
+untried_most (x ∷ xs) = grind (arith, untried_most xs)
 
 -- where no port is left to try, nothing more can be worked out
 pub none_left : (r : Records) (worth : List Load → ℕ) (ps : List PortRow) (ls : List LinkRow) (hs : List HopRow) → untried ps ≡ 0 → Worked r worth ps ls hs → Stuck r worth ps ls hs
 none_left r worth ps ls hs none w = record {
   worked = w;
-  waits = λ x j e. absurd (left x j (ap (λ p. elim p as (λ _. ℕ) [ Open ↦ 1 | Waiting ↦ 1 | WorkedOut ↦ 0 | PastLimit ↦ 0 ]) e));
-  none_open = λ x j e. left x j (ap (λ p. elim p as (λ _. ℕ) [ Open ↦ 1 | Waiting ↦ 1 | WorkedOut ↦ 0 | PastLimit ↦ 0 ]) e);
+  waits = λ x j e. absurd (grind (arith, in_total left_to_try ps x j));
+  none_open = λ x j e. grind (arith, in_total left_to_try ps x j);
 }
-  where
-    left : (x : PortRow) → In x ps → left_to_try x ≡ 1 → ⊥
-    left x j e = omega (arith, in_total left_to_try ps x j, none, e)
 
 -- rows without figures are a beginning
 pub unworked : (r : Records) (worth : List Load → ℕ) (ps : List PortRow) (ls : List LinkRow) (hs : List HopRow) → Holds r ps ls hs
@@ -77,17 +66,15 @@ unworked r worth ps ls hs held all = record {
 }
   where
     untried_yet : (x : PortRow) → In x ps → Tried x → ⊥
-    untried_yet x j (inl e) = apart Open WorkedOut (sym (all x j) ∙ e) (λ n. omega arith)
-    untried_yet x j (inr e) = apart Open PastLimit (sym (all x j) ∙ e) (λ n. omega arith)
+    untried_yet x j t = grind (arith, all x j)
 
 -- one round, over the tables
-pub round_makes : (worth : List Load → ℕ) (t u v w : Ports) (l : Links) (h k : Hops) (hs : List HopRow) (any : Bool)
-    → EditsAll number_before port_key opened t u → Advance u l h v k 0 (length (rows h)) → length (rows k) ≡ length (rows h) → hs ≡ rows k
-    → ((r : Records) → Setting r worth → Known r worth (rows v) (rows l) hs (length hs) → SettlesFirst r worth (rows l) hs (length (rows v)) (rows v) (rows w) any)
+pub round_makes : (worth : List Load → ℕ) (t u v w : Ports) (l : Links) (h k : Hops) (any : Bool)
+    → EditsAll number_before port_key opened t u → Advance u l h v k 0 (length (rows h)) → length (rows k) ≡ length (rows h)
+    → ((r : Records) → Setting r worth → Known r worth (rows v) (rows l) (rows k) (length (rows k)) → SettlesFirst r worth (rows l) (rows k) (length (rows v)) (rows v) (rows w) any)
     → (r : Records) → Setting r worth → Worked r worth (rows t) (rows l) (rows h) → RoundMakes r worth (rows l) (rows t) (rows h) (rows w) (rows k) any
-round_makes worth t u v w l h k hs any edited passed count all settled r s old =
+round_makes worth t u v w l h k any edited passed count settled r s old =
     let start = subst (λ (ps : List PortRow). Advancing r worth ps (rows l) (rows h) 0 (untried (rows t))) (sym (edited.edited (λ x. refl))) (begins r worth (rows t) (rows l) (rows h) old) in
     let mid : Advancing r worth (rows v) (rows l) (rows k) (length (rows k)) (untried (rows t))
     = subst (λ (n : ℕ). Advancing r worth (rows v) (rows l) (rows k) n (untried (rows t))) (sym count) (passed r worth (untried (rows t)) s start) in
-    let done = settled r s (subst (λ (zs : List HopRow). Known r worth (rows v) (rows l) zs (length zs)) (sym all) mid.known) in
-    ends r worth (rows t) (rows v) (rows w) (rows l) (rows h) (rows k) any mid (subst (λ (zs : List HopRow). SettlesFirst r worth (rows l) zs (length (rows v)) (rows v) (rows w) any) all done)
+    ends r worth (rows t) (rows v) (rows w) (rows l) (rows h) (rows k) any mid (settled r s mid.known)

@@ -1,10 +1,11 @@
 -- One port more is tried: its figures are worked out, or pass the limit.
-use Rattle.std.proofs.Common.{◌≡◌, ℕ, ◌+◌, ◌≤◌, List, length, get_or, set, Some, None, Option, sym, refl, ap, ◌∙◌, subst, inl, inr, arith}
+use Rattle.std.proofs.Common.{◌≡◌, ℕ, ◌+◌, ◌≤◌, List, length, set, Some, None, Option, sym, refl, ap, ◌∙◌, subst, inl, inr, arith}
 use native.Mathlib.Decide.{dec_le}
 use Rattle.std.specs.List.{slice_get}
+use Rattle.std.proofs.Math.Seq.{map-set_same}
 use Rattle.std.proofs.lemmas.List.{take_all}
+use Rattle.std.proofs.lemmas.Option.{slice_get_within, get_or_from_slice_get}
 use Rattle.definitions.specs.declared.loads.Load.{Load}
-use Rattle.definitions.specs.declared.network.Port.{Port}
 use Rattle.definitions.specs.declared.network.Hop.{Hop}
 use Rattle.definitions.specs.Lists.{In, total}
 use Rattle.definitions.specs.Loads.{AreLoads}
@@ -12,35 +13,27 @@ use Rattle.definitions.specs.Windows.{Overloaded}
 use Rattle.definitions.specs.Methods.{limit}
 use Rattle.definitions.specs.Network.{Records, FeedsNext, Feeds, InRing, latency}
 use Rattle.definitions.specs.Figures.{Figures, FiguresOf, Past, latest_at, loads, hops_at, departure}
-use Rattle.register.proofs.Exits.{some_within}
-use Rattle.register.proofs.Sorted.{getD_in}
-use Rattle.theory.proofs.Members.{in_map}
 use Rattle.theory.proofs.Keys.{before_hop}
 use Rattle.theory.proofs.PortLoads.{loads_within, demand_still}
-use Rattle.working_out.specs.declared.rows.Progress.TheVariants.{Open, Waiting, WorkedOut, PastLimit}
+use Rattle.working_out.specs.declared.rows.Progress.TheVariants.{Open, WorkedOut, PastLimit}
 use Rattle.working_out.specs.declared.rows.PortRow.{PortRow}
 use Rattle.working_out.specs.declared.rows.LinkRow.{LinkRow}
 use Rattle.working_out.specs.declared.rows.HopRow.{HopRow}
 use Rattle.working_out.specs.Gathering.{loads_at}
-use Rattle.working_out.specs.Settling.{Setting, Tried, DoneAt, RightHop, RightPort, Worked, Known, Figured, held, settled_row, left_to_try, untried}
-use Rattle.working_out.proofs.Edited.{read_at}
-use Rattle.working_out.proofs.RowLists.{map_in, set_in, other_in_set, map_set, total_set}
+use Rattle.working_out.specs.Settling.{Setting, DoneAt, RightHop, RightPort, Worked, Known, Figured, held, settled_row, left_to_try, untried}
+use Rattle.working_out.proofs.Held.{port_in, hop_in, hop_row}
+use Rattle.working_out.proofs.RowLists.{at_in, set_in, other_in_set, total_set}
 use Rattle.working_out.proofs.Tabled.{ports_ordered, one_row}
-use Rattle.working_out.proofs.Quieted.{apart}
 use Rattle.working_out.proofs.Fed.{last_step, goes_back}
 use Rattle.working_out.proofs.LoadsOf.{loads_are}
 
 module _ (r : Records) (worth : List Load → ℕ) (s : Setting r worth) (ps : List PortRow) (ls : List LinkRow) (hs : List HopRow)
     (a : Known r worth ps ls hs (length hs)) (i : ℕ) (x : PortRow) (at : Some x ≡ slice_get ps i) (is_open : x.progress ≡ Open) where
   there : In x ps
-  there = subst (λ z. In z ps) (read_at ps i x x at) (getD_in ps i x (some_within ps i x at))
+  there = at_in ps i x at
 
   in_ports : In x.port r.ports
-  in_ports = subst (In x.port) a.worked.held.ports (in_map (λ (z : PortRow). z.port) ps x there)
-
-  -- the row of a hop at the port
-  row_of : (h : Hop) → In h r.hops → (y : HopRow) × In y hs × (h ≡ y.hop)
-  row_of h j = map_in (λ (z : HopRow). z.hop) hs h (subst (In h) (sym a.worked.held.hops) j)
+  in_ports = port_in a.worked.held x there
 
   known_here : (y : HopRow) → In y hs → y.hop.port ≡ x.port.number
       → ((F : Figures) → FiguresOf r worth F → RightHop F y) × ((q : ℕ) → y.hop.after ≡ Some q → DoneAt ps q)
@@ -50,13 +43,13 @@ module _ (r : Records) (worth : List Load → ℕ) (s : Setting r worth) (ps : L
   not_done : ¬ DoneAt ps x.port.number
   not_done d =
       let same : d.row ≡ x = one_row ps (ports_ordered r s.well_formed ps ls hs a.worked.held) d.row x d.there there d.number in
-      apart WorkedOut Open (sym d.holds ∙ ap (λ (z : PortRow). z.progress) same ∙ is_open) (λ e. omega arith)
+      cc
 
   -- what feeds it directly is
   fed_by_done : (q : ℕ) → FeedsNext r q x.port.number → DoneAt ps q
   fed_by_done q f =
-      let (y, j, e) = row_of f.hop f.there in
-      (known_here y j (ap (λ (h : Hop). h.port) (sym e) ∙ f.at)).1 q (ap (λ (h : Hop). h.after) (sym e) ∙ f.after)
+      let (y, j, e) = hop_row a.worked.held f.hop f.there in
+      (known_here y j cc).1 q cc
 
   -- what feeds a port that is worked out is worked out
   done_back : {q p : ℕ} → Feeds r q p → DoneAt ps p → DoneAt ps q
@@ -110,9 +103,9 @@ module _ (r : Records) (worth : List Load → ℕ) (s : Setting r worth) (ps : L
       within = λ past. elim past [
         | inl over ↦ omega (arith, can.within, backlog_is gs e)
         | inr (h, j, g, over) ↦
-            let (y, k, same) = row_of h j in
-            let right = (known_here y k (ap (λ (z : Hop). z.port) (sym same) ∙ g)).0 F f in
-            let le = departs y k (ap (λ (z : Hop). z.port) (sym same) ∙ g) in
+            let (y, k, same) = hop_row a.worked.held h j in
+            let right = (known_here y k cc).0 F f in
+            let le = departs y k cc in
             omega (arith, over, le, right.latest, ap (latest_at F) same, backlog_is gs e, ap F.backlog g)
       ];
     }
@@ -125,49 +118,39 @@ module _ (r : Records) (worth : List Load → ℕ) (s : Setting r worth) (ps : L
     ]
     figures_past gs e (inr (y, j, g, over)) =
         let right = (known_here y j g).0 F f in
-        inr (y.hop, subst (In y.hop) a.worked.held.hops (in_map (λ (z : HopRow). z.hop) hs y j), g, omega (arith, over, right.latest, backlog_is gs e, ap F.backlog g))
+        inr (y.hop, hop_in a.worked.held y j, g, omega (arith, over, right.latest, backlog_is gs e, ap F.backlog g))
 
   -- ## The rows with the port tried
 
   module _ (gs : List Load) (gathered : gs ≡ loads_at ls x.port hs) (o : Option (ℕ × ℕ)) (told : Figured worth hs x.port.number gs o) where
     same_port : (o : Option (ℕ × ℕ)) → (settled_row x o).port ≡ x.port
-    same_port (Some f) = refl
-    same_port None = refl
-
-    now_tried : (o : Option (ℕ × ℕ)) → Tried (settled_row x o)
-    now_tried (Some f) = inl refl
-    now_tried None = inr refl
+    same_port o = grind arith
 
     pub not_open : (o : Option (ℕ × ℕ)) → ¬ ((settled_row x o).progress ≡ Open)
-    not_open (Some f) e = apart WorkedOut Open e (λ m. omega arith)
-    not_open None e = apart PastLimit Open e (λ m. omega arith)
-
-    none_left : (o : Option (ℕ × ℕ)) → left_to_try (settled_row x o) ≡ 0
-    none_left (Some f) = refl
-    none_left None = refl
+    not_open o e = grind arith
 
     right_now : (F : Figures) → FiguresOf r worth F → (o : Option (ℕ × ℕ)) → Figured worth hs x.port.number gs o → (settled_row x o).progress ≡ WorkedOut → RightPort r F (settled_row x o)
     right_now F f (Some g) t e = figures_right F f gs gathered g.0 g.1 t
-    right_now F f None t e = apart PastLimit WorkedOut e (λ m. omega arith)
+    right_now F f None t e = cc
 
     past_now : (F : Figures) → FiguresOf r worth F → (o : Option (ℕ × ℕ)) → Figured worth hs x.port.number gs o → (settled_row x o).progress ≡ PastLimit → Past r F x.port.number
-    past_now F f (Some g) t e = apart WorkedOut PastLimit e (λ m. omega arith)
+    past_now F f (Some g) t e = cc
     past_now F f None t e = figures_past F f gs gathered t
 
     -- ports that were worked out still are
     done_on : (q : ℕ) → DoneAt ps q → DoneAt (set ps i (settled_row x o)) q
     done_on q d = elim (other_in_set ps i x (settled_row x o) d.row d.there) [
-      | inl same ↦ apart WorkedOut Open (sym d.holds ∙ ap (λ (z : PortRow). z.progress) (same ∙ read_at ps i x x at) ∙ is_open) (λ m. omega arith)
+      | inl same ↦ absurd (grind (arith, get_or_from_slice_get ps i x x (sym at)))
       | inr j ↦ record { row = d.row; there = j; number = d.number; holds = d.holds }
     ]
 
     numbered : (z : PortRow) → z ≡ settled_row x o → z.port.number ≡ x.port.number
-    numbered z e = ap (λ (w : PortRow). w.port.number) e ∙ ap (λ (p : Port). p.number) (same_port o)
+    numbered z e = cc (same_port o)
 
     worked_on : Worked r worth (set ps i (settled_row x o)) ls hs
     worked_on = record {
       held = record {
-        ports = map_set (λ (z : PortRow). z.port) ps i x (settled_row x o) (some_within ps i x at) (same_port o ∙ ap (λ (z : PortRow). z.port) (sym (read_at ps i x x at))) ∙ a.worked.held.ports;
+        ports = map-set_same (λ (z : PortRow). z.port) ps i (settled_row x o) x (cc (same_port o, get_or_from_slice_get ps i x x (sym at))) ∙ a.worked.held.ports;
         links = a.worked.held.links;
         hops = a.worked.held.hops;
       };
@@ -180,11 +163,11 @@ module _ (r : Records) (worth : List Load → ℕ) (s : Setting r worth) (ps : L
         | inr m ↦ a.worked.no_ring z m t
       ];
       right_ports = λ F f z j done. elim (set_in ps i (settled_row x o) z j) [
-        | inl same ↦ subst (RightPort r F) (sym same) (right_now F f o told (ap (λ (w : PortRow). w.progress) (sym same) ∙ done))
+        | inl same ↦ subst (RightPort r F) (sym same) (right_now F f o told cc)
         | inr m ↦ a.worked.right_ports F f z m done
       ];
       past_ports = λ F f z j past. elim (set_in ps i (settled_row x o) z j) [
-        | inl same ↦ subst (Past r F) (sym (numbered z same)) (past_now F f o told (ap (λ (w : PortRow). w.progress) (sym same) ∙ past))
+        | inl same ↦ subst (Past r F) (sym (numbered z same)) (past_now F f o told cc)
         | inr m ↦ a.worked.past_ports F f z m past
       ];
       right_hops = λ F f y j t. elim (set_in ps i (settled_row x o) t.row t.there) [
@@ -197,7 +180,7 @@ module _ (r : Records) (worth : List Load → ℕ) (s : Setting r worth) (ps : L
     known_on = record {
       worked = worked_on;
       known = λ y j t. elim (set_in ps i (settled_row x o) t.row t.there) [
-        | inl same ↦ absurd (not_open o (ap (λ (w : PortRow). w.progress) (sym same) ∙ t.holds))
+        | inl same ↦ absurd (not_open o cc)
         | inr m ↦
             let (right, after) = a.known y j record { row = t.row; there = m; number = t.number; holds = t.holds } in
             (right, λ q e. done_on q (after q e))
@@ -206,7 +189,4 @@ module _ (r : Records) (worth : List Load → ℕ) (s : Setting r worth) (ps : L
 
     -- one port less is left
     pub one_less : untried (set ps i (settled_row x o)) + 1 ≡ untried ps
-    one_less =
-        let sums = total_set left_to_try ps i x (settled_row x o) (some_within ps i x at) in
-        let was : left_to_try (get_or ps i x) ≡ 1 = ap left_to_try (read_at ps i x x at) ∙ ap (λ p. elim p as (λ _. ℕ) [ Open ↦ 1 | Waiting ↦ 1 | WorkedOut ↦ 0 | PastLimit ↦ 0 ]) is_open in
-        omega (arith, sums, was, none_left o)
+    one_less = grind (arith, total_set left_to_try ps i x (settled_row x o) (slice_get_within ps i x (sym at)), get_or_from_slice_get ps i x x (sym at))

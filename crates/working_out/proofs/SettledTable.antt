@@ -1,14 +1,12 @@
 -- What trying ports makes of their table.
-use Rattle.std.proofs.Common.{◌≡◌, ℕ, ◌+◌, ◌<◌, ◌≤◌, Bool, true, false, ◌||◌, List, length, take, set, Some, None, Option, sym, refl, ap, ◌∙◌, subst, inl, inr, arith, length-set}
+use Rattle.std.proofs.Common.{◌≡◌, ℕ, ◌+◌, ◌<◌, ◌≤◌, Bool, true, false, ◌||◌, List, length, take, set, Some, Option, sym, ap, ◌∙◌, subst, inl, inr, arith, length-set}
 use Rattle.std.specs.List.{slice_get}
 use Rattle.std.proofs.lemmas.List.{take_all}
-use Rattle.std.proofs.lemmas.Bool.{both_ways}
-use Rattle.std.proofs.lemmas.Option.{slice_get-get_or}
+use Rattle.std.proofs.lemmas.Option.{slice_get_within, slice_get-get_or}
 use Rattle.definitions.specs.declared.loads.Load.{Load}
 use Rattle.definitions.specs.Lists.{In}
 use Rattle.definitions.specs.Network.{Records}
 use Rattle.register.specs.Tables.{rows, Replacing}
-use Rattle.register.proofs.Exits.{some_within}
 use Rattle.working_out.specs.declared.rows.Progress.TheVariants.{Open}
 use Rattle.working_out.specs.declared.rows.PortRow.{PortRow}
 use Rattle.working_out.specs.declared.rows.LinkRow.{LinkRow}
@@ -20,31 +18,15 @@ use Rattle.working_out.proofs.Edited.{same_key}
 use Rattle.working_out.proofs.RowLists.{take_set_in, take_more_in}
 use Rattle.working_out.proofs.SettledRow.{known_on, one_less, not_open}
 
-or_left_false : (a b : Bool) → (a || b) ≡ false → a ≡ false
-or_left_false true b e = e
-or_left_false false b e = refl
-
-or_false_true : (a : Bool) → (a || false) ≡ true → a ≡ true
-or_false_true true e = refl
-or_false_true false e = e
-
-or_true_not : (a : Bool) → (a || true) ≡ false → ⊥
-or_true_not true e = both_ways true e refl
-or_true_not false e = both_ways true e refl
-
-keeps_number : (o : Option (ℕ × ℕ)) (x : PortRow) → (settled_row x o).port.number ≡ x.port.number
-keeps_number (Some f) x = refl
-keeps_number None x = refl
-
 -- an open port was tried
 pub tried_table : (worth : List Load → ℕ) (p q : Ports) (l : Links) (hs : List HopRow) (i : ℕ) (x : PortRow) → Some x ≡ slice_get (rows p) i → x.progress ≡ Open
     → (gs : List Load) → (gs ≡ loads_at (rows l) x.port hs) → (o : Option (ℕ × ℕ)) → Figured worth hs x.port.number gs o
     → (new : PortRow) → new ≡ settled_row x o → (b : Bool) → Replacing number_before port_key i new p q b
     → (r : Records) → Setting r worth → Known r worth (rows p) (rows l) hs (length hs) → Settles r worth (rows l) hs i (rows p) (rows q) true
 tried_table worth p q l hs i x at is_open gs gathered o told new e b replaced r s a =
-    let now-is : rows q ≡ set (rows p) i (settled_row x o) = same_key number_before port_key (λ (z : PortRow). settled_row z o) (keeps_number o) p q i x new b at e replaced in (
+    let now-is : rows q ≡ set (rows p) i (settled_row x o) = same_key number_before port_key (λ (z : PortRow). settled_row z o) (λ z. grind arith) p q i x new b at e replaced in (
       settled_row x o,
-      some_within (rows p) i x at,
+      slice_get_within (rows p) i x (sym at),
       now-is,
       not_open r worth s (rows p) (rows l) hs a i x at is_open gs gathered o told o,
       subst (λ (ps : List PortRow). Known r worth ps (rows l) hs (length hs)) (sym now-is) (known_on r worth s (rows p) (rows l) hs a i x at is_open gs gathered o told),
@@ -63,23 +45,19 @@ settle_more r worth ls hs i ps qs vs any false lt old (same, shut) = record {
         | inr k ↦ old.none_open x k
       ];
   same_count = ap length same ∙ old.same_count;
-  same = λ e. same ∙ old.same (or_left_false any false e);
-  fewer = λ e. subst (λ (zs : List PortRow). untried zs < untried ps) (sym same) (old.fewer (or_false_true any e));
+  same = λ e. same ∙ old.same (grind arith);
+  fewer = λ e. grind (arith, old.fewer);
 }
 settle_more r worth ls hs i ps qs vs any true lt old (x, within, now-is, shut, known, less) = record {
   known = known;
   none_open = λ z j. elim (take_set_in qs i x z within (subst (λ (zs : List PortRow). In z (take (i + 1) zs)) now-is j)) [
-    | inl e ↦ λ f. shut (ap (λ (w : PortRow). w.progress) (sym e) ∙ f)
+    | inl e ↦ λ f. shut cc
     | inr k ↦ old.none_open z k
   ];
   same_count = ap length now-is ∙ length-set qs i x ∙ old.same_count;
-  same = λ e. absurd (or_true_not any e);
-  fewer = λ e. fewer_still any refl;
+  same = λ e. absurd (grind arith);
+  fewer = λ e. grind (arith, old.fewer, old.same);
 }
-  where
-    fewer_still : (b : Bool) → any ≡ b → untried vs < untried ps
-    fewer_still true e = omega (arith, less, old.fewer e)
-    fewer_still false e = omega (arith, less, ap untried (old.same e))
 
 -- after the last place no port is open
 pub settled_all : (r : Records) (worth : List Load → ℕ) (ls : List LinkRow) (hs : List HopRow) (i : ℕ) (ps qs : List PortRow) (any : Bool) → length ps ≤ i

@@ -32,22 +32,13 @@ ports_ascend = rows_ascend (λ (x : PortRow). x.port) number_before port_key por
 pub links_ascend : (xs : List LinkRow) → ascending (by_key number_before link_key) xs ≡ ascending link_before (map (λ (x : LinkRow). x.link) xs)
 links_ascend = rows_ascend (λ (x : LinkRow). x.link) number_before link_key link_before (λ a b. refl)
 
-pub hops_ascend : (xs : List HopRow) → ascending (by_key place_before hop_key) xs ≡ ascending hop_before (map (λ (x : HopRow). x.hop) xs)
-hops_ascend = rows_ascend (λ (x : HopRow). x.hop) place_before hop_key hop_before keys_agree
-
 -- two rows of one port are the same
 pub one_row : (ps : List PortRow) → ascending (by_key number_before port_key) ps ≡ true → (x y : PortRow) → In x ps → In y ps
     → x.port.number ≡ y.port.number → x ≡ y
 one_row ps up x y i j e = one_of_key (by_key number_before port_key) ps up x y i j
     (le-ltb x.port.number y.port.number (omega (arith, e))) (le-ltb y.port.number x.port.number (omega (arith, e)))
 
--- tables that hold well-formed records are in order
-module _ (r : Records) (wf : WellFormed r) (ps : List PortRow) (ls : List LinkRow) (hs : List HopRow) (h : Holds r ps ls hs) where
-  pub ports_ordered : ascending (by_key number_before port_key) ps ≡ true
-  ports_ordered = ports_ascend ps ∙ ap (ascending port_before) h.ports ∙ wf.ports_ascend
-
-  pub links_ordered : ascending (by_key number_before link_key) ls ≡ true
-  links_ordered = links_ascend ls ∙ ap (ascending link_before) h.links ∙ wf.links_ascend
-
-  pub hops_ordered : ascending (by_key place_before hop_key) hs ≡ true
-  hops_ordered = hops_ascend hs ∙ ap (ascending hop_before) h.hops ∙ wf.hops_ascend
+-- a table that holds well-formed records is in order
+pub ports_ordered : (r : Records) → WellFormed r → (ps : List PortRow) (ls : List LinkRow) (hs : List HopRow) → Holds r ps ls hs
+    → ascending (by_key number_before port_key) ps ≡ true
+ports_ordered r wf ps ls hs h = ports_ascend ps ∙ ap (ascending port_before) h.ports ∙ wf.ports_ascend

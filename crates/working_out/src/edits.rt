@@ -20,6 +20,7 @@ pub(crate) fn edit_all<R: Keyed, F: Fn(R) -> R>(table: &mut Table<R>, edit: F)
 }
 
 // Changes the row under the key, if there is one.
+#[tactic(auto, using(crate::proofs::Edited::under_none))]
 pub(crate) fn edit_under<R: Keyed, F: Fn(R) -> R>(table: &mut Table<R>, key: R::K, edit: F)
     requires { F.IsAlwaysCallable edit }
     ensures { (edited : R → R) → ((x y : R) → F.post edit x y → y ≡ edited x) → EditsUnder R.K.Key.before R.Keyed.key key edited table.old table.new }

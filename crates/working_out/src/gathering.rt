@@ -57,6 +57,7 @@ pub(crate) fn gather(
 }
 
 // The lowest port that its loads overload.
+#[tactic(auto, using(crate::proofs::Gathered::first_here))]
 pub(crate) fn first_overloaded(
     ports: &[PortRow],
     links: &Table<LinkRow>,

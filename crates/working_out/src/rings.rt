@@ -73,6 +73,7 @@ fn feeds_itself(ports: &mut Table<PortRow>, hops: &[HopRow], port: u8) -> bool
 }
 
 // The lowest port that feeds itself.
+#[tactic(auto, using(crate::proofs::RingFound::ring_here, crate::proofs::RingFound::none_here))]
 pub(crate) fn first_in_ring(ports: &mut Table<PortRow>, hops: &[HopRow]) -> Option<u8>
     ensures { FindsRing hops.now ports.old ports.new result }
 {

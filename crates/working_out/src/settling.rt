@@ -18,6 +18,7 @@ use methods::Method;
 use register::tables::Table;
 
 // Works out the figures of the port at a place, if it is open; tells whether it was.
+#[tactic(auto, using(crate::proofs::SettledTable::tried_table))]
 fn settle<M: Method>(
     ports: &mut Table<PortRow>,
     links: &Table<LinkRow>,
@@ -120,6 +121,7 @@ pub(crate) fn settle_all<M: Method>(
 }
 
 // The first port with this progress.
+#[tactic(auto, using(crate::proofs::Gathered::first_found))]
 pub(crate) fn first_with(ports: &[PortRow], progress: Progress) -> Option<u8>
     ensures { FirstPort (λ (x : Row). x.progress ≡ progress) ports.now result }
 {

@@ -14,13 +14,7 @@ loop-place-preserved c =
           (omega (arith, c.loop-place-test.true, c.count-place-end.ensures.is)) so_far c.pass.ensures.advances,
     )
 
-pub returns : goal.returns
-returns c =
-    let (ports, hops, count, so_far) = c.loop-place.invariant in
+pub returns-clause-advances : goal.returns-clause-advances
+returns-clause-advances c =
     let end : c.loop-place.place ≡ length (rows c.args.hops.now) = omega (arith, c.loop-place-test.false, c.loop-place.auto.place-end, c.count-place-end.ensures.is) in
-    record {
-      ports_room = ports;
-      hops_room = hops;
-      same_count = count;
-      advances = subst (λ (n : ℕ). Advance c.args.ports.now c.args.links.now c.args.hops.now c.loop-place.ports c.loop-place.hops 0 n) end so_far;
-    }
+    subst (λ (n : ℕ). Advance c.args.ports.now c.args.links.now c.args.hops.now c.loop-place.ports c.loop-place.hops 0 n) end c.loop-place.invariant.3

@@ -1,15 +1,15 @@
-use Rattle.std.proofs.Common.{◌≡◌, ℕ, ◌+◌, ◌*◌, sym, ap, ◌∙◌, subst, arith}
+use Rattle.std.proofs.Common.{◌≡◌, ℕ, ◌+◌, ◌*◌, sym, ap, ◌∙◌, arith}
 use Rattle.definitions.specs.declared.network.VirtualLink.{VirtualLink}
 use Rattle.definitions.specs.Network.{latency}
 use Rattle.register.specs.Tables.{rows}
-use Rattle.working_out.specs.Settling.{Arrives, up_to}
+use Rattle.working_out.specs.Settling.{up_to}
 use Rattle.working_out.specs.Gathering.{link_under}
 use Rattle.working_out.proofs.Arriving.{port_unknown, port_undone, hop_unknown, arrives}
 use Rattle.working_out.proofs.arrivals.arrival.Goals as goal
 
 pub returns-in_err-port : goal.returns-in_err-port
 returns-in_err-port c =
-    subst (Arrives _ _ _ c.args.hop) (sym c.from_residual.ensures)
+    rw c.from_residual.ensures
     (port_unknown (rows c.args.ports.now) (rows c.args.links.now) (rows c.args.hops.now) c.args.hop c.in-Some.before c.in-Some.is c.in_err-port.ensures)
 
 pub returns-in_default-progress : goal.returns-in_default-progress
@@ -19,7 +19,7 @@ returns-in_default-progress c =
 
 pub returns-in_err-row : goal.returns-in_err-row
 returns-in_err-row c =
-    subst (Arrives _ _ _ c.args.hop) (sym c.from_residual-in_err-row.ensures)
+    rw c.from_residual-in_err-row.ensures
     (hop_unknown (rows c.args.ports.now) (rows c.args.links.now) (rows c.args.hops.now) c.args.hop c.in-Some.before c.in-Some.is c.in_err-row.ensures)
 
 pub returns : goal.returns

@@ -1,11 +1,6 @@
 use Rattle.std.proofs.Common.{◌∙◌, arith}
-use Rattle.register.specs.Tables.{rows}
-use Rattle.working_out.proofs.Edited.{one_changed, all_changed, item_there, length_replaced}
+use Rattle.working_out.proofs.Edited.{one_changed, all_changed, length_replaced}
 use Rattle.working_out.proofs.edits.edit_all.Goals as goal
-
-pub returns-in_default : goal.returns-in_default
-returns-in_default g c =
-    absurd (item_there (rows c.loop-place.table) c.loop-place.place (omega (arith, c.loop-place-test.true, c.count-place-end.ensures.is, c.loop-place.invariant.0)) c.in_default.ensures)
 
 pub loop-place-preserved : goal.loop-place-preserved
 loop-place-preserved g c = (

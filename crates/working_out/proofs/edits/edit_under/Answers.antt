@@ -1,14 +1,5 @@
-use Rattle.working_out.proofs.Edited.{under_changed, under_none, item_there}
-use Rattle.register.specs.Tables.{rows}
+use Rattle.working_out.proofs.Edited.{under_changed}
 use Rattle.working_out.proofs.edits.edit_under.Goals as goal
-
-pub returns-in_default : goal.returns-in_default
-returns-in_default g c edited computes =
-    under_none g.R.K.Key.before g.R.Keyed.key g.met.R.K.Key.trichotomy edited c.args.key c.args.table.now c.in_default.field-0 c.in_default.ensures.found
-
-pub returns-in_default-at : goal.returns-in_default-at
-returns-in_default-at g c =
-    absurd (item_there (rows c.args.table.now) c.in-Ok.place c.in-Ok.ensures.within c.in_default-at.ensures)
 
 pub returns : goal.returns
 returns g c edited computes =

@@ -1,19 +1,9 @@
 use Rattle.std.proofs.Common.{arith}
-use Rattle.working_out.proofs.RingMarks.{spreading_none, spreading_on, spread_last, spread_out}
+use Rattle.working_out.proofs.RingMarks.{spreading_none, spread_out}
 use Rattle.working_out.proofs.rings.spread_all.Goals as goal
 
 pub loop-init : goal.loop-init
 loop-init c = spreading_none c.args.hops.now c.args.from c.args.ports.now
-
-pub loop-preserved : goal.loop-preserved
-loop-preserved c =
-    spreading_on c.args.hops.now c.args.from c.args.ports.now c.loop.ports c.loop.counter c.loop.invariant
-    c.spread.new.ports c.if-not-spread.ensures
-
-pub returns-then-not-spread : goal.returns-then-not-spread
-returns-then-not-spread c =
-    spread_last c.args.hops.now c.args.from c.args.ports.now c.loop.ports c.loop.counter c.loop.invariant
-    c.spread.new.ports c.if-not-spread.ensures
 
 pub returns : goal.returns
 returns c =

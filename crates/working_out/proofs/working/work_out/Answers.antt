@@ -1,38 +1,30 @@
-use Rattle.std.proofs.Common.{length, refl, sym, arith}
+use Rattle.std.proofs.Common.{length, sym, arith}
 use Rattle.working_out.proofs.Concluding.{works_short, works_overloaded, works_refused, works_settled}
 use Rattle.working_out.proofs.working.work_out.Goals as goal
 
-pub returns-then-loads-count : goal.returns-then-loads-count
-returns-then-loads-count g c = record {
-  load_places = refl;
-  ports_room = c.clear_figures.ensures.ports_room;
-  hops_room = c.clear_figures.ensures.hops_room;
-  works = λ wf. works_short (g.M.Method.worth c.args.method.now) (g.met.M.Method.lawful c.args.method.now) (length c.args.loads.now) c.args.ports.now c.args.links.now c.args.hops.now wf
-      c.clear_figures.new.ports c.clear_figures.new.hops c.clear_figures.ensures (omega (arith, c.if-loads-count.true, c.count.ensures.is));
-}
+pub returns-then-loads-count-clause-works : goal.returns-then-loads-count-clause-works
+returns-then-loads-count-clause-works g c wf =
+    works_short (g.M.Method.worth c.args.method.now) (g.met.M.Method.lawful c.args.method.now) (length c.args.loads.now) c.args.ports.now c.args.links.now c.args.hops.now wf
+    c.clear_figures.new.ports c.clear_figures.new.hops c.clear_figures.ensures (omega (arith, c.if-loads-count.true, c.count.ensures.is))
 
-pub returns-in-Some : goal.returns-in-Some
-returns-in-Some g c = record {
-  load_places = c.first_overloaded.auto.loads;
-  ports_room = c.clear_figures.ensures.ports_room;
-  hops_room = c.clear_figures.ensures.hops_room;
-  works = λ wf. works_overloaded (g.M.Method.worth c.args.method.now) (g.met.M.Method.lawful c.args.method.now) (length c.args.loads.now) c.args.ports.now c.args.links.now c.args.hops.now wf
-      c.clear_figures.new.ports c.clear_figures.new.hops c.clear_figures.ensures
-      _ _ c.all.ensures c.all-2.ensures (omega (arith, c.if-loads-count.false, c.count.ensures.is)) c.in-Some.port c.in-Some.ensures;
-}
+pub returns-in-Some-clause-works : goal.returns-in-Some-clause-works
+returns-in-Some-clause-works g c wf =
+    works_overloaded (g.M.Method.worth c.args.method.now) (g.met.M.Method.lawful c.args.method.now) (length c.args.loads.now) c.args.ports.now c.args.links.now c.args.hops.now wf
+    c.clear_figures.new.ports c.clear_figures.new.hops c.clear_figures.ensures
+    (omega (arith, c.if-loads-count.false, c.count.ensures.is)) c.in-Some.port (rw (c.all.ensures, c.all-2.ensures) at c.in-Some.ensures)
 
 pub returns-then-is_err-clause-works : goal.returns-then-is_err-clause-works
 returns-then-is_err-clause-works g c wf =
     works_refused (g.M.Method.worth c.args.method.now) (g.met.M.Method.lawful c.args.method.now) (length c.args.loads.now) c.args.ports.now c.args.links.now c.args.hops.now wf
     c.clear_figures.new.ports c.clear_figures.new.hops c.clear_figures.ensures
-    _ _ c.all.ensures c.all-2.ensures (omega (arith, c.if-loads-count.false, c.count.ensures.is)) c.in_default.ensures
-    c.settle_all.new.ports c.judge-judged.new.ports c.settle_all.new.hops c.judge-judged.result c.settle_all.ensures.stuck _ c.all-3.ensures c.judge-judged.ensures.judged
+    (omega (arith, c.if-loads-count.false, c.count.ensures.is)) (rw (c.all.ensures, c.all-2.ensures) at c.in_default.ensures)
+    c.settle_all.new.ports c.judge-judged.new.ports c.settle_all.new.hops c.judge-judged.result c.settle_all.ensures.stuck (rw c.all-3.ensures at c.judge-judged.ensures.judged)
     (sym c.if-is_err.ensures.value) c.clear_figures-then-is_err.new.ports c.clear_figures-then-is_err.new.hops c.clear_figures-then-is_err.ensures
 
 pub returns-else-is_err-clause-works : goal.returns-else-is_err-clause-works
 returns-else-is_err-clause-works g c wf =
     works_settled (g.M.Method.worth c.args.method.now) (g.met.M.Method.lawful c.args.method.now) (length c.args.loads.now) c.args.ports.now c.args.links.now c.args.hops.now wf
     c.clear_figures.new.ports c.clear_figures.new.hops c.clear_figures.ensures
-    _ _ c.all.ensures c.all-2.ensures (omega (arith, c.if-loads-count.false, c.count.ensures.is)) c.in_default.ensures
-    c.settle_all.new.ports c.judge-judged.new.ports c.settle_all.new.hops c.judge-judged.result c.settle_all.ensures.stuck _ c.all-3.ensures c.judge-judged.ensures.judged
+    (omega (arith, c.if-loads-count.false, c.count.ensures.is)) (rw (c.all.ensures, c.all-2.ensures) at c.in_default.ensures)
+    c.settle_all.new.ports c.judge-judged.new.ports c.settle_all.new.hops c.judge-judged.result c.settle_all.ensures.stuck (rw c.all-3.ensures at c.judge-judged.ensures.judged)
     (sym c.if-is_err.ensures.value)
