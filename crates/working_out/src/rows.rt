@@ -40,10 +40,7 @@ impl PortRow {
     {
         PortRow {
             port,
-            backlog: 0,
-            depth: 0,
-            progress: Progress::Open,
-            fed: false,
+            ..PortRow::default()
         }
     }
 
@@ -83,8 +80,7 @@ impl HopRow {
     {
         HopRow {
             hop,
-            earliest: 0,
-            latest: 0,
+            ..HopRow::default()
         }
     }
 }
