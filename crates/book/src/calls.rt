@@ -55,7 +55,7 @@ impl<'a> Book<'a> {
     }
 
     // The three kinds of records are put in alike; in one function for all, the tests, the limit and both refusals would be
-    // arguments.
+    // arguments, or constants of a trait with an impl for each, which is no shorter.
     fn add_port(&mut self, port: Port) -> Result<(), Refusal>
         ensures { Doing (entry_ground (places self.old) (records self.old) (port_entry port)) (entered (records self.old) (port_entry port)) self.old self.new result }
     {
@@ -208,6 +208,7 @@ impl<'a> Book<'a> {
         self.standing = false;
     }
 
+    // Of counts and records told there is one for each kind: each is a call of its own, which its `run` names.
     // How many ports there are.
     pub fn port_count(&self) -> usize
         ensures outcome { result ≡ length (records self.now).ports }
@@ -273,7 +274,7 @@ fn has_known_rate(port: &Port) -> bool
     port.rate == 10 || port.rate == 100
 }
 
-// In ms; of a load it is in ns.
+// In ms; of a load it is in ns, and one test of both would have to convert.
 fn has_known_gap(link: &VirtualLink) -> bool
     ensures { result ≡ gap_known link.now }
 {

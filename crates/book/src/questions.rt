@@ -95,6 +95,7 @@ impl<'a> Book<'a> {
             return Err(Refusal::NoHops);
         }
         let departure = Departure { ports: &self.ports };
+        // while figures stand, every departure fits
         Ok(largest(&departure, hops).unwrap_or(u64::MAX))
     }
 

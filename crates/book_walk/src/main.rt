@@ -1,4 +1,5 @@
-// book_walk: a small network is entered, with every refusal on the way, a link is removed, and the book is told and cleared.
+// book_walk: a small network is entered, with every refusal of the entries on the way, a link is removed, and the book is told
+// and cleared.
 #![tactic(auto)]
 
 use book::books::Book;

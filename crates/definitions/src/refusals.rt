@@ -25,7 +25,7 @@ pub enum Refusal {
     SecondFirstHop,
     NoHopBefore,
     HopTableFull,
-    // reading a text
+    // reading a text, which is to come
     BookNotEmpty,
     ByteForbidden { line: usize },
     LineUnfinished { line: usize },
@@ -34,9 +34,10 @@ pub enum Refusal {
     HeadingWrong { line: usize },
     FieldCountWrong { line: usize },
     FieldUnreadable { line: usize, field: usize },
-    // the ground by its number: to hold a Refusal itself would need the heap
+    // the entry's ground by its number: to hold a Refusal itself would need the heap, and a second enum of the grounds of
+    // entries would say them twice
     EntryRefused { line: usize, ground: u8 },
-    // writing a text or a listing
+    // writing a text or a listing, which is to come
     OutputShort,
     // working out
     LoadTableShort,

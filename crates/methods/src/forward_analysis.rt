@@ -28,7 +28,8 @@ impl Method for Forward {
 }
 
 // The largest of W(t) − t. W rises only at arrival dates, so each is tried, from 0 on, until the
-// port falls idle before the next one or the horizon is reached. None where it passes the limit.
+// port falls idle before the next one or the horizon is reached. None where 64 bits do not hold a W(t), which only
+// a largest past the limit allows.
 fn largest_backlog(rows: &[Load]) -> Option<u64>
     requires { AreLoads rows.now }
     ensures { MatchOption result (limit < forward rows.now) (λ w. w ≡ forward rows.now) }
@@ -46,7 +47,8 @@ fn largest_backlog(rows: &[Load]) -> Option<u64>
     }
 }
 
-// The first date after `date` at which a load can bring a frame; a horizon later where there are no loads.
+// The first date after `date` at which a load can bring a frame; a horizon later where there are no loads. The nearness of a
+// load always fits 64 bits, so that the next ns is never the answer.
 #[tactic(auto, using(crate::proofs::Nearest::flat_before_nearest), unfolding(definitions::specs::Windows::horizon))]
 fn next_date(rows: &[Load], date: u64) -> u64
     requires loads { AreLoads rows.now }

@@ -20,8 +20,8 @@ pub trait Method {
     ghost worth: { Self → List LoadRow → ℕ };
 
     // The worth of the list, or none exactly where a row is no load, the list is overloaded,
-    // or the worth exceeds 10,000,000,000 ns. Each method tests the rows itself: to share that here
-    // would take a second method with a `requires`, and no public function has one.
+    // or the worth exceeds 10,000,000,000 ns. Each method tests the rows itself: to share that line here
+    // would take a type of its own for rows that were tested.
     fn answer(&self, rows: &[Load]) -> Option<u64>
         ensures { Answers (worth self.now) rows.now result };
 

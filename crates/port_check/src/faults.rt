@@ -12,7 +12,7 @@ pub struct Fault {
 impl fmt::Display for Fault {
     fn fmt<W: fmt::Write>(&self, f: &mut fmt::Formatter<W>) -> fmt::Result {
         let Fault { line, refusal } = *self;
-        write!(f, "line {line}: refused by {}", refusal.number())?;
+        write!(f, "line {line}: {refusal}")?;
         match refusal {
             Refusal::GapUnknown => {
                 writeln!(f, ": the gap is none of 1, 2, 4, 8, 16, 32, 64 and 128 ms")

@@ -9,7 +9,7 @@ use std::cmp::Ordering;
 
 // What records are kept in order by. Of two keys exactly one holds: the first is before the second, they are
 // the same, or the second is before the first; and before carries over. `std::cmp::Ord` says less: keys that it calls
-// equal need not be the same.
+// equal need not be the same; with that law beside it, the order would be told from its three-way `cmp`, and no impl saved.
 pub trait Key: Copy {
     ghost before: { Self → Self → Bool };
 

@@ -91,7 +91,7 @@ impl<'a, R: Keyed> Table<'a, R> {
         Ok(())
     }
 
-    // Puts a record in the place of one under the same key.
+    // Puts a record in the place of one under the same key; false where there is none at the place, or one under another key.
     pub fn replace(&mut self, place: usize, record: R) -> bool
         ensures { Replacing R.K.Key.before R.Keyed.key place «record» self.old self.new result }
     {
@@ -105,7 +105,7 @@ impl<'a, R: Keyed> Table<'a, R> {
         true
     }
 
-    // Removes the records from one place to before another.
+    // Removes the records from one place to before another; false where there are no such places.
     pub fn remove_run(&mut self, from: usize, to: usize) -> bool
         ensures { Removing R.K.Key.before R.Keyed.key from to self.old self.new result }
     {
@@ -118,7 +118,7 @@ impl<'a, R: Keyed> Table<'a, R> {
         true
     }
 
-    // Removes the record at a place.
+    // Removes the record at a place; false where there is none.
     pub fn remove_one(&mut self, place: usize) -> bool
         ensures { Removing R.K.Key.before R.Keyed.key place (place + 1) self.old self.new result }
     {

@@ -20,6 +20,6 @@ pub struct Table<'a, R: Keyed> {
 pub enum NotInserted {
     // a record under the same key is there
     Present,
-    // there is no place left
+    // there is no place left, or the table holds as many records as it may
     Full,
 }
