@@ -1,6 +1,6 @@
 -- The figures of one port.
 use Rattle.std.proofs.Common.{◌≡◌, ℕ, ◌+◌, ◌-◌, ◌/◌, ◌^◌, ◌≤◌, cond, eqb, List, [], ◌∷◌, Some, sym, ap, ◌∙◌, subst, mul-le-mul_left, arith}
-use Rattle.std.proofs.lemmas.Bool.{eq-eqb}
+use Rattle.std.proofs.lemmas.Bool.Decides.{nat_tests}
 use Rattle.definitions.specs.declared.loads.Load.{Load}
 use Rattle.definitions.specs.Lists.{In, total, largest}
 use Rattle.definitions.specs.Loads.{AreLoads}
@@ -30,9 +30,7 @@ departs_at n b y = cond (eqb y.hop.port n) (y.latest + b) 0
 -- no departure of the port exceeds the largest
 pub departures_within : (hs : List HopRow) (n b m : ℕ) → IsLargest (departs_at n b) hs m → m ≤ limit → (y : HopRow) → In y hs → y.hop.port ≡ n → y.latest + b ≤ limit
 departures_within hs n b m large le y i e =
-    let d = large.bounds y i in
-    let f : departs_at n b y ≡ y.latest + b = ap (λ t. cond t (y.latest + b) 0) (eq-eqb y.hop.port n e) in
-    omega arith
+    grind (arith, nat_tests, large.bounds y i)
 
 pub figured : (worth : List Load → ℕ) (hs : List HopRow) (n : ℕ) (ls : List Load) (b d m : ℕ) → Answerable worth ls → b ≡ worth ls
     → d ≡ total (held b) ls → m ≡ largest (departs_at n b) hs → m ≤ limit → IsLargest (departs_at n b) hs (largest (departs_at n b) hs)

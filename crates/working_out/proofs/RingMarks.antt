@@ -2,7 +2,6 @@
 use Rattle.std.proofs.Common.{◌≡◌, ℕ, ◌+◌, ◌<◌, ◌≤◌, Bool, true, false, cond, ◌||◌, List, [], ◌∷◌, ◌++◌, map, length, Some, None, Decides, Option, MatchOption, IsTrue, ◌↔◌, sym, refl, ap, ◌∙◌, subst, inl, inr, arith}
 use Rattle.std.specs.List.{AllByRecursion}
 use Rattle.std.proofs.ByRecursion.{All-push}
-use Rattle.definitions.specs.declared.network.Hop.{Hop}
 use Rattle.definitions.specs.Lists.{In, ascending}
 use Rattle.definitions.specs.Network.{direct, through}
 use Rattle.theory.proofs.Members.{in_map, in_all, all_in, total_map, total_less}
@@ -32,9 +31,6 @@ pub row_of_marks : (xs ys : List PortRow) → map unmarked ys ≡ map unmarked x
     → (y : PortRow) × In y ys × (unmarked x ≡ unmarked y)
 row_of_marks xs ys e x i = map_in unmarked ys (unmarked x) (subst (In (unmarked x)) (sym e) (in_map unmarked xs x i))
 
-pub remarked_same : (t : Ports) → Remarked t t
-remarked_same t = record { same_room = refl; marks_only = refl }
-
 pub remarked_on : (t u v : Ports) → Remarked t u → Remarked u v → Remarked t v
 remarked_on t u v a b = record {
   same_room = b.same_room ∙ a.same_room;
@@ -46,7 +42,7 @@ pub homed_of_marks : (xs ys : List PortRow) → map unmarked ys ≡ map unmarked
 homed_of_marks xs ys e hs homed h i =
     let (x, j, f) = homed h i in
     let (y, k, g) = row_of_marks xs ys e x j in
-    (y, k, ap port_key (sym g) ∙ f)
+    (y, k, grind arith)
 
 -- ## Marks of one port
 
@@ -58,16 +54,6 @@ marked_by p xs up (Some row) (i, e) b is = (
   λ m. is ∙ ap (λ (x : PortRow). x.fed) (one_row xs up row m.0 i m.1 (e ∙ sym m.2)) ∙ m.3,
 )
 marked_by p xs up None none b is = (λ t. cc, λ m. absurd (none m.0 m.1 m.2))
-
--- a port that is not there, or marked already, is left
-pub left_none : (p : ℕ) (t : Ports) → (Getting port_key (rows t) p None) → Marks p t t false
-left_none p t none = (refl, λ x i e. absurd (none x i e))
-
-pub left_marked : (p : ℕ) (t : Ports) (row : PortRow) → (Getting port_key (rows t) p (Some row)) → row.fed ≡ true → Marks p t t false
-left_marked p t row got m = (
-  refl,
-  λ x j f. ap (λ (y : PortRow). y.fed) (one_row (rows t) t.ascends x row j got.0 (f ∙ sym got.1)) ∙ m,
-)
 
 -- ## Spreading
 
@@ -112,7 +98,7 @@ sound_mark hs p n xs sound fed y i m =
 -- a hop that marks nothing
 spreads_none : (h : HopRow) (p : ℕ) (t : Ports) → (Passed p (rows t) h) → Spreads (h ∷ []) p t t false
 spreads_none h p t passed = record {
-  remarked = remarked_same t;
+  remarked = record { same_room = refl; marks_only = refl };
   sound = λ ks within old. old;
   comes = (refl, (passed, tt));
 }
@@ -127,7 +113,7 @@ spreads_next h p q t u true a reached (room, (x, i, e, f), is) = record {
   comes = omega (arith, ap unmarked_count is, one_less h.hop.port (rows t) x i e f);
 }
 spreads_next h p q t u false a reached (same, all) =
-    subst (λ v. Spreads (h ∷ []) p t v false) (sym same) (spreads_none h p t (λ m b c x i e. all x i e))
+    rw same (spreads_none h p t (λ m b c x i e. all x i e))
 
 comes_on : (hs : List HopRow) (h : HopRow) (p : ℕ) (t u v : Ports) (a b : Bool)
     → Comes hs p t u a → Comes (h ∷ []) p u v b → Comes (hs ++ (h ∷ [])) p t v (a || b)
@@ -157,7 +143,7 @@ Spreading hs p t i u =
     × (unmarked_count (rows u) + i ≤ length (rows t))
 
 -- no more rows are without a mark than there are
-few_unmarked : (xs : List PortRow) → unmarked_count xs ≤ length xs
+pub few_unmarked : (xs : List PortRow) → unmarked_count xs ≤ length xs
 few_unmarked [] = omega arith
 few_unmarked (x ∷ xs) = grind (arith, few_unmarked xs)
 
@@ -165,9 +151,6 @@ few_unmarked (x ∷ xs) = grind (arith, few_unmarked xs)
 all_marked : (xs : List PortRow) → unmarked_count xs ≡ 0 → (x : PortRow) → In x xs → x.fed ≡ true
 all_marked [] e x i = absurd i
 all_marked (y ∷ xs) e x i = grind (arith, all_marked xs)
-
-pub spreading_none : (hs : List HopRow) (p : ℕ) (t : Ports) → Spreading hs p t 0 t
-spreading_none hs p t = (remarked_same t, λ old. old, omega (arith, few_unmarked (rows t)))
 
 -- after as many passes as there are rows all are marked
 pub spread_out : (hs : List HopRow) (p : ℕ) (t u : Ports) (i : ℕ) → Spreading hs p t i u → length (rows t) ≤ i → SpreadsAll hs p t u
@@ -194,7 +177,7 @@ fed_marked : (hs : List HopRow) (p : ℕ) (xs : List PortRow) → Homed xs hs �
 fed_marked hs p xs homed passed (direct {q = q} f) reached =
     let (h, i, e) = map_in (λ (x : HopRow). x.hop) hs f.hop f.there in
     let (x, j, k) = homed h i in
-    (x, j, k ∙ ap (λ (z : Hop). z.port) (sym e) ∙ f.at, in_all (Passed p xs) hs passed h i q (ap (λ (z : Hop). z.after) (sym e) ∙ f.after) reached x j k)
+    (x, j, cc, in_all (Passed p xs) hs passed h i q (cc) reached x j k)
 fed_marked hs p xs homed passed (through a b) reached =
     fed_marked hs p xs homed passed b (inr (fed_marked hs p xs homed passed a reached))
 

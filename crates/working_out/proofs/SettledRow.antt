@@ -11,7 +11,7 @@ use Rattle.definitions.specs.Lists.{In, total}
 use Rattle.definitions.specs.Loads.{AreLoads}
 use Rattle.definitions.specs.Windows.{Overloaded}
 use Rattle.definitions.specs.Methods.{limit}
-use Rattle.definitions.specs.Network.{Records, FeedsNext, Feeds, InRing, latency}
+use Rattle.definitions.specs.Network.{Records, FeedsNext, InRing, latency}
 use Rattle.definitions.specs.Figures.{Figures, FiguresOf, Past, latest_at, loads, hops_at, departure}
 use Rattle.theory.proofs.Keys.{before_hop}
 use Rattle.theory.proofs.PortLoads.{loads_within, demand_still}
@@ -24,7 +24,7 @@ use Rattle.working_out.specs.Settling.{Setting, DoneAt, RightHop, RightPort, Wor
 use Rattle.working_out.proofs.Held.{port_in, hop_in, hop_row}
 use Rattle.working_out.proofs.RowLists.{at_in, set_in, other_in_set, total_set}
 use Rattle.working_out.proofs.Tabled.{ports_ordered, one_row}
-use Rattle.working_out.proofs.Fed.{last_step, goes_back}
+use Rattle.working_out.proofs.Fed.{fed_done}
 use Rattle.working_out.proofs.LoadsOf.{loads_are}
 
 module _ (r : Records) (worth : List Load → ℕ) (s : Setting r worth) (ps : List PortRow) (ls : List LinkRow) (hs : List HopRow)
@@ -51,17 +51,8 @@ module _ (r : Records) (worth : List Load → ℕ) (s : Setting r worth) (ps : L
       let (y, j, e) = hop_row a.worked.held f.hop f.there in
       (known_here y j cc).1 q cc
 
-  -- what feeds a port that is worked out is worked out
-  done_back : {q p : ℕ} → Feeds r q p → DoneAt ps p → DoneAt ps q
-  done_back = goes_back r (DoneAt ps) (λ q p f d. a.worked.after_done d.row d.there (inl d.holds) f.hop f.there (f.at ∙ sym d.number) q f.after)
-
   pub no_ring_here : ¬ InRing r x.port.number
-  no_ring_here f =
-      let (q, step, before) = last_step r f in
-      elim before [
-        | inl e ↦ not_done (subst (DoneAt ps) (sym e) (fed_by_done q step))
-        | inr g ↦ not_done (done_back g (fed_by_done q step))
-      ]
+  no_ring_here f = not_done (fed_done a.worked fed_by_done f)
 
   module _ (F : Figures) (f : FiguresOf r worth F) where
     -- the loads of the port

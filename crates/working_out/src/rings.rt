@@ -53,6 +53,7 @@ fn spread(ports: &mut Table<PortRow>, hops: &[HopRow], from: u8) -> bool
 }
 
 // Spreads the marks from `from` until nothing is added: at most once for every port.
+#[tactic(auto, using(crate::proofs::RingMarks::few_unmarked))]
 fn spread_all(ports: &mut Table<PortRow>, hops: &[HopRow], from: u8)
     ensures { SpreadsAll hops.now from ports.old ports.new }
 {

@@ -101,6 +101,7 @@ fn round<M: Method>(
 }
 
 // Works out figures in rounds until nothing more can be worked out: at most one round for each port.
+#[tactic(auto, using(crate::proofs::Rounds::untried_most))]
 pub(crate) fn settle_all<M: Method>(
     ports: &mut Table<PortRow>,
     links: &Table<LinkRow>,
