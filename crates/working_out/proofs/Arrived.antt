@@ -9,7 +9,7 @@ use Rattle.definitions.specs.Lists.{In}
 use Rattle.definitions.specs.Windows.{W, window, Overloaded}
 use Rattle.definitions.specs.Methods.{limit}
 use Rattle.definitions.specs.Network.{Records, WellFormed, latency, occupancy, find_port, find_link}
-use Rattle.definitions.specs.Figures.{Figures, FiguresOf, Past, load_of, hops_at, loads}
+use Rattle.definitions.specs.Figures.{Figures, FiguresOf, Past, load_of, hops_at, loads, departure}
 use Rattle.theory.proofs.Members.{in_map, in_kept}
 use Rattle.theory.proofs.Lookups.{find_in}
 use Rattle.theory.proofs.PortLoads.{occupancy_mono, hop_link_kept, loads_within, demand_still}
@@ -26,6 +26,13 @@ use Rattle.working_out.proofs.Held.{port_in, hop_in}
 pub row_port : {r : Records} {ps : List PortRow} {ls : List LinkRow} {hs : List HopRow} → WellFormed r → Holds r ps ls hs → (x : PortRow) → In x ps
     → find_port r.ports x.port.number ≡ x.port
 row_port {r = r} wf held x i = find_in (λ (p : Port). p.number) _ r.ports wf.ports_ascend x.port (port_in held x i)
+
+-- no departure of a port passes the limit where no figure of it does
+pub departure_within : (r : Records) (F : Figures) (p : ℕ) → ¬ Past r F p → (k : Hop) → In k r.hops → k.port ≡ p → departure F k ≤ limit
+departure_within r F p within k i at = elim (dec_le (departure F k) limit) [
+  | yes le ↦ le
+  | no over ↦ absurd (within (inr (k, i, at, omega arith)))
+]
 
 module _ (r : Records) (worth : List Load → ℕ) (s : Setting r worth) (F : Figures) (f : FiguresOf r worth F) where
   -- where no figure of a port passes the limit, its backlog bounds what its loads bring
@@ -73,10 +80,7 @@ module _ (r : Records) (worth : List Load → ℕ) (s : Setting r worth) (F : Fi
         let l = f.next_latest h i x.port.number b.after in
         let back = right.backlog in
         let up = right-hop.in_order in
-        let dep : k.latest + x.backlog ≤ limit = elim (dec_le (k.latest + x.backlog) limit) [
-          | yes le ↦ le
-          | no over ↦ absurd (right.within (inr (k.hop, in_hops, b.same_port, omega (arith, right-hop.latest, ap F.backlog b.same_port))))
-        ] in
+        let dep : k.latest + x.backlog ≤ limit = omega (arith, departure_within r F x.port.number right.within k.hop in_hops b.same_port, right-hop.latest, ap F.backlog b.same_port) in
         (record { earliest = omega arith; latest = omega arith; in_order = omega arith }, dep)
 
     -- what is told of the arrivals at a hop is right

@@ -12,7 +12,7 @@ use Rattle.definitions.specs.Loads.{AreLoads}
 use Rattle.definitions.specs.Windows.{Overloaded}
 use Rattle.definitions.specs.Methods.{limit}
 use Rattle.definitions.specs.Network.{Records, FeedsNext, InRing, latency}
-use Rattle.definitions.specs.Figures.{Figures, FiguresOf, Past, latest_at, loads, hops_at, departure}
+use Rattle.definitions.specs.Figures.{Figures, FiguresOf, Past, latest_at, loads, hops_at}
 use Rattle.theory.proofs.Keys.{before_hop}
 use Rattle.theory.proofs.PortLoads.{loads_within, demand_still}
 use Rattle.working_out.specs.declared.rows.Progress.TheVariants.{Open, WorkedOut, PastLimit}
@@ -25,6 +25,7 @@ use Rattle.working_out.proofs.Held.{port_in, hop_in, hop_row}
 use Rattle.working_out.proofs.RowLists.{at_in, set_in, other_in_set, total_set}
 use Rattle.working_out.proofs.Tabled.{ports_ordered, one_row}
 use Rattle.working_out.proofs.Fed.{fed_done}
+use Rattle.working_out.proofs.Arrived.{departure_within}
 use Rattle.working_out.proofs.LoadsOf.{loads_are}
 
 module _ (r : Records) (worth : List Load → ℕ) (s : Setting r worth) (ps : List PortRow) (ls : List LinkRow) (hs : List HopRow)
@@ -67,15 +68,9 @@ module _ (r : Records) (worth : List Load → ℕ) (s : Setting r worth) (ps : L
         let d = fed_by_done q record { hop = h; there = j; at = e; after = after } in
         let right = a.worked.right_ports F f d.row d.there d.holds in
         let (k, m, link, port) = before_hop r s.well_formed h j q after in
-        let dep = within k m d.row.port.number (port ∙ sym d.number) right.within in
+        let dep = departure_within r F d.row.port.number right.within k m (port ∙ sym d.number) in
         let same = ap (λ l. F.latest l k.port) (sym link) in
         omega (arith, f.next_latest h j q after, ap (F.latest h.link) (sym port), ap F.backlog (sym port))
-      where
-        within : (k : Hop) → In k r.hops → (p : ℕ) → k.port ≡ p → ¬ Past r F p → departure F k ≤ limit
-        within k m p g w = elim (dec_le (departure F k) limit) [
-          | yes le ↦ le
-          | no over ↦ absurd (w (inr (k, m, g, omega arith)))
-        ]
 
     are_loads : AreLoads (loads r F x.port.number)
     are_loads = loads_within r s.well_formed F x.port.number (λ h j e. reached h j e h.after refl)

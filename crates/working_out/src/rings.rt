@@ -15,6 +15,7 @@ fn is_marked(ports: &Table<PortRow>, port: u8) -> bool
 }
 
 // Marks the port, and tells whether it was there without a mark.
+#[tactic(auto, using(crate::proofs::Tabled::one_row))]
 fn mark_port(ports: &mut Table<PortRow>, port: u8) -> bool
     ensures { Marks port ports.old ports.new result }
 {

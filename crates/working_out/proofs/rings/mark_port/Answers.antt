@@ -1,14 +1,9 @@
-use Rattle.std.proofs.Common.{true, refl, sym, ◌∙◌, rules}
+use Rattle.std.proofs.Common.{true, refl, rules}
 use Rattle.working_out.specs.Rings.{marked}
-use Rattle.register.specs.Tables.{rows}
-use Rattle.working_out.proofs.Tabled.{one_row}
 use Rattle.working_out.proofs.rings.mark_port.Goals as goal
 
 pub returns-in_default : goal.returns-in_default
 returns-in_default c = (refl, λ x i e. absurd (c.in_default.ensures x i e))
-
-pub returns-then-row : goal.returns-then-row
-returns-then-row c = (refl, λ x i e. cc (one_row (rows c.args.ports.now) c.args.ports.now.ascends x c.in-Some.row i c.in-Some.ensures.0 (e ∙ sym c.in-Some.ensures.1)))
 
 pub returns : goal.returns
 returns c =
