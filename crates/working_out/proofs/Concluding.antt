@@ -73,8 +73,7 @@ module _ (t u : Ports) (hs : List HopRow) (marks : Remarked t u)
             ports = all_in (λ (x : PortRow). (x.backlog ≡ F.backlog x.port.number) × (x.depth ≡ depth r F x.port.number)) (rows u)
                 (λ x i.
                 let (y, j, e) = row_of_marks (rows u) (rows t) (sym marks.marks_only) x i in
-                let (b, d) = in_all (λ (z : PortRow). (z.backlog ≡ F.backlog z.port.number) × (z.depth ≡ depth r F z.port.number)) (rows t) before.ports y j in
-                (grind arith, grind arith));
+                grind (arith, in_all (λ (z : PortRow). (z.backlog ≡ F.backlog z.port.number) × (z.depth ≡ depth r F z.port.number)) (rows t) before.ports y j));
             hops = before.hops;
           }
 

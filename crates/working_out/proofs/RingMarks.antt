@@ -51,7 +51,7 @@ pub marked_by : (p : ℕ) (xs : List PortRow) → ascending (by_key number_befor
     → (b : Bool) → MatchOption o (b ≡ false) (λ row. b ≡ row.fed) → IsTrue b ↔ Marked xs p
 marked_by p xs up (Some row) (i, e) b is = (
   λ t. (row, i, e, cc),
-  λ m. is ∙ ap (λ (x : PortRow). x.fed) (one_row xs up row m.0 i m.1 (e ∙ sym m.2)) ∙ m.3,
+  λ m. let (x, j, k, f) = m in cc (one_row xs up row x i j (e ∙ sym k)),
 )
 marked_by p xs up None none b is = (λ t. cc, λ m. absurd (none m.0 m.1 m.2))
 
@@ -117,8 +117,7 @@ spreads_next h p q t u false a reached (same, all) =
 
 comes_on : (hs : List HopRow) (h : HopRow) (p : ℕ) (t u v : Ports) (a b : Bool)
     → Comes hs p t u a → Comes (h ∷ []) p u v b → Comes (hs ++ (h ∷ [])) p t v (a || b)
-comes_on hs h p t u v true true less also = omega (arith, less, also)
-comes_on hs h p t u v true false less (same, passed) = grind arith
+comes_on hs h p t u v true b less y = grind arith
 comes_on hs h p t u v false true (same, passed) less = grind arith
 comes_on hs h p t u v false false (same, passed) (also, here) =
     (also ∙ same, All-push (Passed p (rows t)) hs h passed (subst (λ (x : Ports). Passed p (rows x) h) same here.0))

@@ -122,7 +122,6 @@ pub(crate) fn settle_all<M: Method>(
 }
 
 // The first port with this progress.
-#[tactic(auto, using(crate::proofs::Gathered::first_found))]
 pub(crate) fn first_with(ports: &[PortRow], progress: Progress) -> Option<u8>
     ensures { FirstPort (λ (x : Row). x.progress ≡ progress) ports.now result }
 {
