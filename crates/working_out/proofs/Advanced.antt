@@ -61,10 +61,7 @@ module _ (r : Records) (worth : List Load → ℕ) (s : Setting r worth) (ps : L
               no_ring = old.no_ring;
               right_ports = old.right_ports;
               past_ports = old.past_ports;
-              right_hops = λ F f z j t. elim (set_in hs i _ z j) [
-                | inl same ↦ subst (RightHop F) (sym same) (right F f)
-                | inr k ↦ old.right_hops F f z k t
-              ];
+              right_hops = λ F f z j t. grind (arith, set_in hs i record { hop = y.hop; earliest = e; latest = l } z j, right F f, old.right_hops F f z);
             };
             known = λ z j. elim (take_set_in hs i _ z within j) [
               | inl same ↦ subst (KnownHop r worth ps) (sym same) (λ is_open. (right, λ q after. comes_after_done q after told))

@@ -144,18 +144,9 @@ module _ (r : Records) (worth : List Load → ℕ) (s : Setting r worth) (ps : L
         | inl same ↦ done_on q (fed_by_done q record { hop = h; there = k; at = e ∙ numbered z same; after = after })
         | inr m ↦ done_on q (a.worked.after_done z m t h k e q after)
       ];
-      no_ring = λ z j t. elim (set_in ps i (settled_row x o) z j) [
-        | inl same ↦ subst (λ m. ¬ InRing r m) (sym (numbered z same)) no_ring_here
-        | inr m ↦ a.worked.no_ring z m t
-      ];
-      right_ports = λ F f z j done. elim (set_in ps i (settled_row x o) z j) [
-        | inl same ↦ subst (RightPort r F) (sym same) (right_now F f o told cc)
-        | inr m ↦ a.worked.right_ports F f z m done
-      ];
-      past_ports = λ F f z j past. elim (set_in ps i (settled_row x o) z j) [
-        | inl same ↦ subst (Past r F) (sym (numbered z same)) (past_now F f o told cc)
-        | inr m ↦ a.worked.past_ports F f z m past
-      ];
+      no_ring = λ z j t. grind (arith, set_in ps i (settled_row x o) z j, numbered z, no_ring_here, a.worked.no_ring z);
+      right_ports = λ F f z j done. grind (arith, set_in ps i (settled_row x o) z j, right_now F f o told, a.worked.right_ports F f z);
+      past_ports = λ F f z j past. grind (arith, set_in ps i (settled_row x o) z j, numbered z, past_now F f o told, a.worked.past_ports F f z);
       right_hops = λ F f y j t. elim (set_in ps i (settled_row x o) t.row t.there) [
         | inl same ↦ (known_here y j (sym t.number ∙ numbered t.row same)).0 F f
         | inr m ↦ a.worked.right_hops F f y j record { row = t.row; there = m; number = t.number; holds = t.holds }
