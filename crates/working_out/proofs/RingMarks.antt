@@ -61,24 +61,18 @@ marked_by p xs up None none b is = (λ t. cc, λ m. absurd (none m.0 m.1 m.2))
 abbrev after_mark : ℕ → PortRow → PortRow
 after_mark p = edited_under number_before port_key p (marked true)
 
-mark_only : (p : ℕ) (x : PortRow) → unmarked (after_mark p x) ≡ unmarked x
-mark_only p x = grind arith
-
 marks_only_after : (p : ℕ) (xs : List PortRow) → map unmarked (map (after_mark p) xs) ≡ map unmarked xs
-marks_only_after p xs = map_again unmarked (after_mark p) xs (mark_only p)
+marks_only_after p xs = map_again unmarked (after_mark p) xs (λ x. grind arith)
 
 abbrev weight : PortRow → ℕ
 weight x = cond x.fed 0 1
-
-lighter : (p : ℕ) (x : PortRow) → weight (after_mark p x) ≤ weight x
-lighter p x = grind arith
 
 -- a mark more is a row without a mark less
 one_less : (p : ℕ) (xs : List PortRow) (x : PortRow) → In x xs → port_key x ≡ p → x.fed ≡ false
     → unmarked_count (map (after_mark p) xs) < unmarked_count xs
 one_less p xs x i e f =
     let here : weight (after_mark p x) < weight x = grind (arith, under_here number_before port_key numbers_one p (marked true) x e) in
-    omega (arith, total_map weight (after_mark p) xs, total_less (λ y. weight (after_mark p y)) weight xs (λ y j. lighter p y) x i here)
+    omega (arith, total_map weight (after_mark p) xs, total_less (λ y. weight (after_mark p y)) weight xs (λ y j. grind arith) x i here)
 
 -- a hop after a port that is reached leads to a port that is fed
 fed_on : (hs : List HopRow) (p : ℕ) (xs : List PortRow) (h : HopRow) (q : ℕ) → Sound hs p xs → In h hs → h.hop.after ≡ Some q → Reached p xs q → FedBy hs p h.hop.port

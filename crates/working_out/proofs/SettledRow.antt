@@ -109,9 +109,6 @@ module _ (r : Records) (worth : List Load → ℕ) (s : Setting r worth) (ps : L
   -- ## The rows with the port tried
 
   module _ (gs : List Load) (gathered : gs ≡ loads_at ls x.port hs) (o : Option (ℕ × ℕ)) (told : Figured worth hs x.port.number gs o) where
-    same_port : (o : Option (ℕ × ℕ)) → (settled_row x o).port ≡ x.port
-    same_port o = grind arith
-
     pub not_open : (o : Option (ℕ × ℕ)) → ¬ ((settled_row x o).progress ≡ Open)
     not_open o e = grind arith
 
@@ -131,12 +128,12 @@ module _ (r : Records) (worth : List Load → ℕ) (s : Setting r worth) (ps : L
     ]
 
     numbered : (z : PortRow) → z ≡ settled_row x o → z.port.number ≡ x.port.number
-    numbered z e = cc (same_port o)
+    numbered z e = grind arith
 
     worked_on : Worked r worth (set ps i (settled_row x o)) ls hs
     worked_on = record {
       held = record {
-        ports = map-set_same (λ (z : PortRow). z.port) ps i (settled_row x o) x (cc (same_port o, get_or_from_slice_get ps i x x (sym at))) ∙ a.worked.held.ports;
+        ports = map-set_same (λ (z : PortRow). z.port) ps i (settled_row x o) x (grind (arith, get_or_from_slice_get ps i x x (sym at))) ∙ a.worked.held.ports;
         links = a.worked.held.links;
         hops = a.worked.held.hops;
       };
