@@ -1,5 +1,5 @@
 -- One hop more is passed: its arrivals are known, or its port waits.
-use Rattle.std.proofs.Common.{◌≡◌, ℕ, ◌+◌, ◌<◌, length, get_or, ◌⊎◌, List, map, set, Some, None, sym, ap, ◌∙◌, subst, inl, inr, arith}
+use Rattle.std.proofs.Common.{◌≡◌, ℕ, ◌+◌, ◌<◌, length, get_or, ◌⊎◌, List, map, set, Some, None, sym, ◌∙◌, subst, inl, inr, arith}
 use Rattle.std.proofs.Math.Seq.{map-set_same}
 use Rattle.std.proofs.lemmas.Bool.Decides.{nat_tests}
 use Rattle.std.proofs.lemmas.Option.{slice_get_within, get_or_from_slice_get}
@@ -10,7 +10,7 @@ use Rattle.definitions.specs.Network.{Records}
 use Rattle.definitions.specs.Figures.{Figures, FiguresOf}
 use Rattle.theory.proofs.Variants.{no_none}
 use Rattle.theory.proofs.Keys.{before_hop}
-use Rattle.working_out.specs.declared.rows.Progress.TheVariants.{Open, Waiting}
+use Rattle.working_out.specs.declared.rows.Progress.TheVariants.{Waiting}
 use Rattle.working_out.specs.declared.rows.PortRow.{PortRow}
 use Rattle.working_out.specs.declared.rows.LinkRow.{LinkRow}
 use Rattle.working_out.specs.declared.rows.HopRow.{HopRow}
@@ -56,15 +56,12 @@ module _ (r : Records) (worth : List Load → ℕ) (s : Setting r worth) (ps : L
         record {
           known = record {
             worked = record {
-              held = record { ports = old.held.ports; links = old.held.links; hops = map-set_same (λ (z : HopRow). z.hop) hs i _ y (ap (λ (z : HopRow). z.hop) (sym read)) ∙ old.held.hops };
+              held = record { ports = old.held.ports; links = old.held.links; hops = map-set_same (λ (z : HopRow). z.hop) hs i _ y (cc read) ∙ old.held.hops };
               after_done = old.after_done;
               no_ring = old.no_ring;
               right_ports = old.right_ports;
               past_ports = old.past_ports;
-              right_hops = λ F f z j t. elim (set_in hs i _ z j) [
-                | inl same ↦ subst (RightHop F) (sym same) (right F f)
-                | inr k ↦ old.right_hops F f z k t
-              ];
+              right_hops = λ F f z j t. grind (arith, set_in hs i record { hop = y.hop; earliest = e; latest = l } z j, right F f, old.right_hops F f z);
             };
             known = λ z j. elim (take_set_in hs i _ z within j) [
               | inl same ↦ subst (KnownHop r worth ps) (sym same) (λ is_open. (right, λ q after. comes_after_done q after told))
@@ -108,9 +105,6 @@ module _ (r : Records) (worth : List Load → ℕ) (s : Setting r worth) (ps : L
           same_port = cc;
         }
 
-    open_back : (x : PortRow) → (mark x).progress ≡ Open → x.progress ≡ Open
-    open_back x e = grind arith
-
     waits_back : (x : PortRow) → (mark x).progress ≡ Waiting → (x.progress ≡ Waiting) ⊎ (x.port.number ≡ y.hop.port)
     waits_back x e = grind (arith, nat_tests)
 
@@ -121,11 +115,10 @@ module _ (r : Records) (worth : List Load → ℕ) (s : Setting r worth) (ps : L
         known = λ z j t.
             let (x, i', e) = map_in mark ps t.row t.there in
             let number : x.port.number ≡ z.hop.port = cc (quiet.port x) in
-            let was-open = open_back x cc in
             elim (take_more_in hs i y z within j) [
               | inl same ↦ absurd (grind (arith, read, under_here number_before port_key numbers_one y.hop.port held_up x))
               | inr k ↦
-                  let (right, after) = a.known.known z k record { row = x; there = i'; number = number; holds = was-open } in
+                  let (right, after) = a.known.known z k record { row = x; there = i'; number = number; holds = grind arith } in
                   (right, λ q f. done_after mark quiet ps q (after q f))
             ];
       };

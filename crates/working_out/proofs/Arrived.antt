@@ -1,5 +1,5 @@
 -- The arrivals that are told from rows that are right are those of the figures.
-use Rattle.std.proofs.Common.{◌≡◌, ℕ, ◌+◌, ◌<◌, ◌≤◌, eqb, List, Some, sym, ap, ◌∙◌, inl, inr, arith}
+use Rattle.std.proofs.Common.{◌≡◌, ℕ, ◌+◌, ◌≤◌, eqb, List, Some, sym, ap, ◌∙◌, inl, inr, arith}
 use native.Mathlib.Decide.{dec_le}
 use Rattle.std.proofs.lemmas.Bool.{eq-eqb}
 use Rattle.definitions.specs.declared.loads.Load.{Load}
@@ -9,7 +9,7 @@ use Rattle.definitions.specs.Lists.{In}
 use Rattle.definitions.specs.Windows.{W, window, Overloaded}
 use Rattle.definitions.specs.Methods.{limit}
 use Rattle.definitions.specs.Network.{Records, WellFormed, latency, occupancy, find_port, find_link}
-use Rattle.definitions.specs.Figures.{Figures, FiguresOf, Past, latest_at, load_of, hops_at, loads, departure}
+use Rattle.definitions.specs.Figures.{Figures, FiguresOf, Past, load_of, hops_at, loads, departure}
 use Rattle.theory.proofs.Members.{in_map, in_kept}
 use Rattle.theory.proofs.Lookups.{find_in}
 use Rattle.theory.proofs.PortLoads.{occupancy_mono, hop_link_kept, loads_within, demand_still}
@@ -26,6 +26,13 @@ use Rattle.working_out.proofs.Held.{port_in, hop_in}
 pub row_port : {r : Records} {ps : List PortRow} {ls : List LinkRow} {hs : List HopRow} → WellFormed r → Holds r ps ls hs → (x : PortRow) → In x ps
     → find_port r.ports x.port.number ≡ x.port
 row_port {r = r} wf held x i = find_in (λ (p : Port). p.number) _ r.ports wf.ports_ascend x.port (port_in held x i)
+
+-- no departure of a port passes the limit where no figure of it does
+pub departure_within : (r : Records) (F : Figures) (p : ℕ) → ¬ Past r F p → (k : Hop) → In k r.hops → k.port ≡ p → departure F k ≤ limit
+departure_within r F p within k i at = elim (dec_le (departure F k) limit) [
+  | yes le ↦ le
+  | no over ↦ absurd (within (inr (k, i, at, omega arith)))
+]
 
 module _ (r : Records) (worth : List Load → ℕ) (s : Setting r worth) (F : Figures) (f : FiguresOf r worth F) where
   -- where no figure of a port passes the limit, its backlog bounds what its loads bring
@@ -64,9 +71,8 @@ module _ (r : Records) (worth : List Load → ℕ) (s : Setting r worth) (F : Fi
         let in_hops : In k.hop r.hops = hop_in w.held k b.hop_there in
         let right = w.right_ports F f x b.port_there b.done in
         let right-hop = w.right_hops F f k b.hop_there record { row = x; there = b.port_there; number = sym b.same_port; holds = inl b.done } in
-        let place : (l p : ℕ) → l ≡ k.hop.link → p ≡ k.hop.port → (F.earliest l p ≡ k.earliest) × (F.latest l p ≡ k.latest)
-        = λ l p e g. (ap (λ n. F.earliest n p) e ∙ ap (F.earliest k.hop.link) g ∙ sym right-hop.earliest, ap (λ n. F.latest n p) e ∙ ap (F.latest k.hop.link) g ∙ sym right-hop.latest) in
-        let (early, late) = place h.link x.port.number (sym b.same_link) (sym b.same_port) in
+        let early : F.earliest h.link x.port.number ≡ k.earliest = cc (right-hop.earliest) in
+        let late : F.latest h.link x.port.number ≡ k.latest = cc (right-hop.latest) in
         let found = ap (λ (p : Port). occupancy p (find_link r.links h.link).shortest) (row_port s.well_formed w.held x b.port_there) in
         let small = occupancy_within k.hop in_hops x.port in_ports b.same_port right.within in
         let small-here = ap (λ n. occupancy (find_port r.ports x.port.number) (find_link r.links n).shortest) b.same_link in
@@ -74,14 +80,8 @@ module _ (r : Records) (worth : List Load → ℕ) (s : Setting r worth) (F : Fi
         let l = f.next_latest h i x.port.number b.after in
         let back = right.backlog in
         let up = right-hop.in_order in
-        let dep : k.latest + x.backlog ≤ limit = elim (dec_le (k.latest + x.backlog) limit) [
-          | yes le ↦ le
-          | no over ↦ absurd (right.within (inr (k.hop, in_hops, b.same_port, departs k.hop k.latest x.backlog x.port.number right-hop.latest back b.same_port (omega arith))))
-        ] in
+        let dep : k.latest + x.backlog ≤ limit = omega (arith, departure_within r F x.port.number right.within k.hop in_hops b.same_port, right-hop.latest, ap F.backlog b.same_port) in
         (record { earliest = omega arith; latest = omega arith; in_order = omega arith }, dep)
-      where
-        departs : (g : Hop) (a c n : ℕ) → a ≡ latest_at F g → c ≡ F.backlog n → g.port ≡ n → limit < a + c → limit < departure F g
-        departs g a c n d e p lt = omega (arith, ap F.backlog p)
 
     -- what is told of the arrivals at a hop is right
     pub arrival_right : (h : Hop) → In h r.hops → (a : ℕ × ℕ) → Arrives ps ls hs h (Some a) → RightHop F record { hop = h; earliest = a.0; latest = a.1 }

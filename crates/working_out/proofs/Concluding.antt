@@ -20,7 +20,7 @@ use Rattle.working_out.specs.Keys.{Ports, Links, Hops}
 use Rattle.working_out.specs.Rows.{bare_port, bare_hop, net}
 use Rattle.working_out.specs.Gathering.{loads_at, FirstPort, OverloadedRow}
 use Rattle.working_out.specs.Settling.{Setting, Holds, Worked, Stuck}
-use Rattle.working_out.specs.Rings.{Remarked, RingTold, LowestTold, unmarked}
+use Rattle.working_out.specs.Rings.{Remarked, RingTold, LowestTold}
 use Rattle.working_out.specs.Works.{Shown, Zero, Cleared, FiguresLeft, result_of, Judged, Works}
 use Rattle.working_out.proofs.RowLists.{map_in, map_again}
 use Rattle.working_out.proofs.Held.{hop_count}
@@ -34,11 +34,8 @@ use Rattle.working_out.proofs.Judging.{lowest_past, settled, shown}
 
 module _ (t u : Ports) (hs : List HopRow) (marks : Remarked t u)
     (r : Records) (worth : List Load → ℕ) (ls : List LinkRow) (s : Setting r worth) (k : Stuck r worth (rows t) ls hs) where
-  same_but_marks : map unmarked (rows u) ≡ map unmarked (rows t)
-  same_but_marks = marks.marks_only
-
   still_held : Holds r (rows u) ls hs
-  still_held = record { ports = ports_of_marks (rows t) (rows u) same_but_marks ∙ k.worked.held.ports; links = k.worked.held.links; hops = k.worked.held.hops }
+  still_held = record { ports = ports_of_marks (rows t) (rows u) marks.marks_only ∙ k.worked.held.ports; links = k.worked.held.links; hops = k.worked.held.hops }
 
   pub judged_ring : (p : ℕ) → RingTold r (Some p) → Judged r worth (rows u) ls hs (Err (PortInRing p))
   judged_ring p told = record {
@@ -75,11 +72,8 @@ module _ (t u : Ports) (hs : List HopRow) (marks : Remarked t u)
           record {
             ports = all_in (λ (x : PortRow). (x.backlog ≡ F.backlog x.port.number) × (x.depth ≡ depth r F x.port.number)) (rows u)
                 (λ x i.
-                let (y, j, e) = row_of_marks (rows u) (rows t) (sym same_but_marks) x i in
-                let (b, d) = in_all (λ (z : PortRow). (z.backlog ≡ F.backlog z.port.number) × (z.depth ≡ depth r F z.port.number)) (rows t) before.ports y j in (
-                  ap (λ (z : PortRow). z.backlog) e ∙ b ∙ ap (λ (z : PortRow). F.backlog z.port.number) (sym e),
-                  ap (λ (z : PortRow). z.depth) e ∙ d ∙ ap (λ (z : PortRow). depth r F z.port.number) (sym e),
-                ));
+                let (y, j, e) = row_of_marks (rows u) (rows t) (sym marks.marks_only) x i in
+                grind (arith, in_all (λ (z : PortRow). (z.backlog ≡ F.backlog z.port.number) × (z.depth ≡ depth r F z.port.number)) (rows t) before.ports y j));
             hops = before.hops;
           }
 
@@ -112,13 +106,13 @@ module _ (t : Ports) (h : Hops) (u : Ports) (k : Hops) (c : Cleared t h u k) whe
   pub cleared_zero : Zero (rows u) (rows k)
   cleared_zero = record {
     ports = all_in (λ (x : PortRow). (x.backlog ≡ 0) × (x.depth ≡ 0)) (rows u)
-        (λ x i. let (y, j, e) = bare_in x i in (ap (λ (z : PortRow). z.backlog) e, ap (λ (z : PortRow). z.depth) e));
+        (λ x i. let (y, j, e) = bare_in x i in (cc, cc));
     hops = all_in (λ (x : HopRow). (x.earliest ≡ 0) × (x.latest ≡ 0)) (rows k)
-        (λ x i. let (y, j, e) = bare_hop_in x i in (ap (λ (z : HopRow). z.earliest) e, ap (λ (z : HopRow). z.latest) e));
+        (λ x i. let (y, j, e) = bare_hop_in x i in (cc, cc));
   }
 
   pub cleared_open : (x : PortRow) → In x (rows u) → x.progress ≡ Open
-  cleared_open x i = let (y, j, e) = bare_in x i in ap (λ (z : PortRow). z.progress) e
+  cleared_open x i = let (y, j, e) = bare_in x i in cc
 
   -- over cleared rows, overload is told of the records
   pub overload_told : (r : Records) → WellFormed r → (l : Links) → Holds r (rows u) (rows l) (rows k) → (a : Option ℕ)
@@ -129,7 +123,7 @@ module _ (t : Ports) (h : Hops) (u : Ports) (k : Hops) (c : Cleared t h u k) whe
     where
       same : (x : PortRow) → In x (rows u) → loads_at (rows l) x.port (rows k) ≡ loads r still x.port.number
       same x i = loads_are r wf still (rows u) (rows l) (rows k) held x i
-          (λ y j at. let (z, m, e) = bare_hop_in y j in (ap (λ (w : HopRow). w.earliest) e, ap (λ (w : HopRow). w.latest) e))
+          (λ y j at. let (z, m, e) = bare_hop_in y j in (cc, cc))
 
 module _ (worth : List Load → ℕ) (law : Lawful worth) (n : ℕ) (p : Ports) (l : Links) (h : Hops) (wf : WellFormed (net (rows p) (rows l) (rows h))) where
   abbrev r : Records

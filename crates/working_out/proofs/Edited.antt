@@ -56,14 +56,14 @@ module _ {R K : Type 0} (lt : K → K → Bool) (key : R → K) (one : (a b : K)
   -- the row at the place is the one under the key
   pub set_under : (xs : List R) (i : ℕ) (d : R) → ascending (by_key lt key) xs ≡ true → i < length xs → key (get_or xs i d) ≡ k
       → set xs i (f (get_or xs i d)) ≡ map (edited_under lt key k f) xs
-  set_under [] i d up l e = absurd (omega (arith, l))
+  set_under [] i d up l e = absurd (omega arith)
   set_under (x ∷ xs) zero d up l e =
-      let (first, rest) = and_parts (every (by_key lt key x) xs) (ascending (by_key lt key) xs) up in
+      let first : every (by_key lt key x) xs ≡ true = grind arith in
       rw (under_here lt key one k f x e, sym (others xs (λ r i same. before_apart lt one (key x) (key r) (in_every (by_key lt key x) xs first r i) (e ∙ sym same))))
   set_under (x ∷ xs) (suc i) d up l e =
       let (first, rest) = and_parts (every (by_key lt key x) xs) (ascending (by_key lt key) xs) up in
-      let less = in_every (by_key lt key x) xs first (get_or xs i d) (getD_in xs i d (omega (arith, l))) in
-      rw (under_other lt key one k f x (λ same. before_apart lt one (key x) (key (get_or xs i d)) less (same ∙ sym e)), set_under xs i d rest (omega (arith, l)) e)
+      let less = in_every (by_key lt key x) xs first (get_or xs i d) (getD_in xs i d (omega arith)) in
+      rw (under_other lt key one k f x (λ same. before_apart lt one (key x) (key (get_or xs i d)) less (same ∙ sym e)), set_under xs i d rest (omega arith) e)
 
 module _ {R K : Type 0} (lt : K → K → Bool) (key : R → K) (tri : (a b : K) → ExactlyOne (lt a b ≡ true) (a ≡ b) (lt b a ≡ true)) where
   pub under_changed : (f : R → R) (k : K) (t u : TableBy lt key) (i : ℕ) (x y : R) (b : Bool)

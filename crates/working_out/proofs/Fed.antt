@@ -1,15 +1,18 @@
--- Feeding, by its last step and over ports that are worked out.
-use Rattle.std.proofs.Common.{◌≡◌, ℕ, ◌⊎◌, refl, subst, inl, inr}
+-- What feeds ports that are worked out is worked out.
+use Rattle.std.proofs.Common.{ℕ, List, sym, ◌∙◌, inl}
+use Rattle.definitions.specs.declared.loads.Load.{Load}
 use Rattle.definitions.specs.Network.{Records, FeedsNext, Feeds, direct, through}
+use Rattle.working_out.specs.declared.rows.PortRow.{PortRow}
+use Rattle.working_out.specs.declared.rows.LinkRow.{LinkRow}
+use Rattle.working_out.specs.declared.rows.HopRow.{HopRow}
+use Rattle.working_out.specs.Settling.{DoneAt, Worked}
 
--- what feeds a port feeds it directly, or feeds a port that does
-pub last_step : (r : Records) {a p : ℕ} → Feeds r a p → (q : ℕ) × FeedsNext r q p × ((a ≡ q) ⊎ Feeds r a q)
-last_step r (direct {q = q} n) = (q, n, inl refl)
-last_step r (through {q = a} {m = m} {p = p} f g) =
-    let (q, n, before) = last_step r g in
-    (q, n, inr (elim before [ inl e ↦ subst (Feeds r a) e f | inr h ↦ through f h ]))
+module _ {r : Records} {worth : List Load → ℕ} {ps : List PortRow} {ls : List LinkRow} {hs : List HopRow} (w : Worked r worth ps ls hs) where
+  done_back : {q p : ℕ} → Feeds r q p → DoneAt ps p → DoneAt ps q
+  done_back (direct {q = q} n) d = w.after_done d.row d.there (inl d.holds) n.hop n.there (n.at ∙ sym d.number) q n.after
+  done_back (through f g) d = done_back f (done_back g d)
 
--- where a claim goes from each port to those that feed it directly, it goes to all that feed it
-pub goes_back : (r : Records) (P : ℕ → Type 0) → ((q p : ℕ) → FeedsNext r q p → P p → P q) → {q p : ℕ} → Feeds r q p → P p → P q
-goes_back r P step (direct {q = q} {p = p} n) h = step q p n h
-goes_back r P step (through f g) h = goes_back r P step f (goes_back r P step g h)
+  -- where what feeds a port directly is worked out, all that feeds it is
+  pub fed_done : {q p : ℕ} → ((q : ℕ) → FeedsNext r q p → DoneAt ps q) → Feeds r q p → DoneAt ps q
+  fed_done next (direct {q = q} n) = next q n
+  fed_done next (through f g) = done_back f (fed_done next g)

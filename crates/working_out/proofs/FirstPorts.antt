@@ -1,6 +1,6 @@
 -- FirstPorts: the first row of which a claim holds is that of the lowest port.
-use Rattle.std.proofs.Common.{◌≡◌, ℕ, ◌≤◌, true, List, ◌∷◌, ◌++◌, map, Some, None, Option, sym, refl, ap, ◌∙◌, subst, inl, inr, arith}
-use Rattle.std.proofs.lemmas.Bool.{ltb-true}
+use Rattle.std.proofs.Common.{◌≡◌, ℕ, ◌≤◌, true, List, ◌∷◌, ◌++◌, map, Some, None, Option, sym, refl, ap, ◌∙◌, subst, inl, arith}
+use Rattle.std.proofs.lemmas.Bool.Decides.{nat_tests}
 use Rattle.definitions.specs.declared.network.Port.{Port}
 use Rattle.definitions.specs.Lists.{In, ascending}
 use Rattle.definitions.specs.Network.{Records}
@@ -20,13 +20,14 @@ module _ (r : Records) (P : ℕ → Type 0) (Q : PortRow → Type 0) (xs : List 
   row_of p i = map_in (λ (x : PortRow). x.port) xs p (subst (In p) (sym same) i)
 
   least_row : (n : ℕ) → (f : FirstIs Q xs n) → (x : PortRow) → In x (f.before ++ (f.row ∷ f.rest)) → Q x → port_key f.row ≤ port_key x
-  least_row n f x i q = elim (in_either f.before (f.row ∷ f.rest) x i) [
-    | inl j ↦ absurd (in_all (λ y. ¬ Q y) f.before f.none_before x j q)
-    | inr (inl e) ↦ omega (arith, ap port_key e)
-    | inr (inr j) ↦
-        let less = before_rest (by_key number_before port_key) f.before f.row f.rest (ap (ascending (by_key number_before port_key)) (sym f.parts) ∙ up) x j in
-        omega (arith, ltb-true (port_key f.row) (port_key x) less)
-  ]
+  least_row n f x i q =
+      grind (
+        arith,
+        nat_tests,
+        in_either f.before (f.row ∷ f.rest) x i,
+        in_all (λ y. ¬ Q y) f.before f.none_before x,
+        before_rest (by_key number_before port_key) f.before f.row f.rest (ap (ascending (by_key number_before port_key)) (sym f.parts) ∙ up) x,
+      )
 
   -- the answer by rows is the answer by ports
   pub first_lowest : (a : Option ℕ) → FirstPort Q xs a → LowestTold r P a

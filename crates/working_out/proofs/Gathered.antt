@@ -3,7 +3,7 @@ use Rattle.std.proofs.Common.{◌≡◌, ℕ, ◌+◌, ◌<◌, true, List, [], 
 use Rattle.std.specs.List.{AllByRecursion, AllWithin, HoldsAt}
 use Rattle.working_out.specs.declared.rows.PortRow.{PortRow}
 use Rattle.std.proofs.lemmas.List.{drop_more, take-append-drop}
-use Rattle.std.proofs.lemmas.Bool.{ne_eqb}
+use Rattle.std.proofs.lemmas.Bool.Decides.{nat_tests}
 use Rattle.definitions.specs.declared.network.VirtualLink.{VirtualLink}
 use Rattle.definitions.specs.Lists.{ascending}
 use Rattle.register.specs.Tables.{by_key, Getting}
@@ -15,20 +15,17 @@ use Rattle.working_out.specs.Keys.{number_before, link_key}
 use Rattle.working_out.specs.Gathering.{link_under, FirstIs}
 use Rattle.working_out.proofs.Tabled.{links_ascend}
 
-link_found : (n : ℕ) (xs : List LinkRow) (row : LinkRow) → ascending (by_key number_before link_key) xs ≡ true → Getting link_key xs n (Some row)
-    → row.link ≡ link_under xs n
-link_found n xs row up (i, e) = sym (
-    ap (link_under xs) (sym e)
-    ∙ find_in (λ (l : VirtualLink). l.number) _ (map (λ (x : LinkRow). x.link) xs) (sym (links_ascend xs) ∙ up) row.link (in_map (λ (x : LinkRow). x.link) xs row i))
-
 link_unfound : (n : ℕ) (xs : List LinkRow) → Getting link_key xs n None
     → record { number = 0; gap = 0; shortest = 0; longest = 0 } ≡ link_under xs n
 link_unfound n [] none = refl
-link_unfound n (x ∷ xs) none = rw (ne_eqb x.link.number n (none x (inl refl))) (link_unfound n xs (λ y i. none y (inr i)))
+link_unfound n (x ∷ xs) none = grind (arith, nat_tests, none x (inl refl), link_unfound n xs (λ y i. none y (inr i)))
 
 pub link_told : (n : ℕ) (xs : List LinkRow) → ascending (by_key number_before link_key) xs ≡ true → (o : Option LinkRow) → Getting link_key xs n o
     → (r : LinkRow) → MatchOption o (r.link ≡ record { number = 0; gap = 0; shortest = 0; longest = 0 }) (λ x. r ≡ x) → r.link ≡ link_under xs n
-link_told n xs up (Some row) got r is = ap (λ (x : LinkRow). x.link) is ∙ link_found n xs row up got
+link_told n xs up (Some row) (i, e) r is =
+    let found : link_under xs row.link.number ≡ row.link
+    = find_in (λ (l : VirtualLink). l.number) _ (map (λ (x : LinkRow). x.link) xs) (sym (links_ascend xs) ∙ up) row.link (in_map (λ (x : LinkRow). x.link) xs row i) in
+    cc
 link_told n xs up None got r is = is ∙ link_unfound n xs got
 
 -- the first row of which P holds stands after rows of which it does not

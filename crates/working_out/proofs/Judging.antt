@@ -16,12 +16,12 @@ use Rattle.working_out.specs.declared.rows.PortRow.{PortRow}
 use Rattle.working_out.specs.declared.rows.LinkRow.{LinkRow}
 use Rattle.working_out.specs.declared.rows.HopRow.{HopRow}
 use Rattle.working_out.specs.Gathering.{FirstPort}
-use Rattle.working_out.specs.Settling.{Setting, Tried, DoneAt, Stuck}
+use Rattle.working_out.specs.Settling.{Setting, DoneAt, Stuck}
 use Rattle.working_out.specs.Rings.{LowestTold}
 use Rattle.working_out.specs.Works.{Shown}
 use Rattle.working_out.proofs.Held.{port_in, hop_in, port_row}
 use Rattle.working_out.proofs.Tabled.{ports_ordered, one_row}
-use Rattle.working_out.proofs.Fed.{last_step, goes_back}
+use Rattle.working_out.proofs.Fed.{fed_done}
 use Rattle.working_out.proofs.FirstPorts.{first_lowest}
 
 -- the progress of a row, by cases
@@ -33,21 +33,7 @@ module _ (r : Records) (worth : List Load → ℕ) (s : Setting r worth) (ps : L
   pub none_waits : AllByRecursion (λ (x : PortRow). ¬ (x.progress ≡ Waiting)) ps → NoPort r (InRing r)
   none_waits none p i =
       let (x, j, e) = port_row k.worked.held p i in
-      subst (λ (q : Port). ¬ InRing r q.number) (sym e) (elim (cases_progress x.progress) [
-        | inl open' ↦ absurd (k.none_open x j open')
-        | inr (inl waits) ↦ absurd (in_all (λ (z : PortRow). ¬ (z.progress ≡ Waiting)) ps none x j waits)
-        | inr (inr t) ↦ k.worked.no_ring x j t
-      ])
-
-  -- what feeds a port that was tried is worked out
-  fed_done : (x : PortRow) → In x ps → Tried x → (q : ℕ) → Feeds r q x.port.number → DoneAt ps q
-  fed_done x i t q f =
-      let (m, step, before) = last_step r f in
-      let d = k.worked.after_done x i t step.hop step.there step.at m step.after in
-      elim before [
-        | inl e ↦ subst (DoneAt ps) (sym e) d
-        | inr g ↦ goes_back r (DoneAt ps) (λ a b n c. k.worked.after_done c.row c.there (inl c.holds) n.hop n.there (n.at ∙ sym c.number) a n.after) g d
-      ]
+      grind (arith, k.none_open x j, in_all (λ (z : PortRow). ¬ (z.progress ≡ Waiting)) ps none x j, k.worked.no_ring x j)
 
   module _ (free : NoPort r (InRing r)) (F : Figures) (f : FiguresOf r worth F) where
     done_within : (q : ℕ) → DoneAt ps q → ¬ Past r F q
@@ -82,7 +68,7 @@ module _ (r : Records) (worth : List Load → ℕ) (s : Setting r worth) (ps : L
     first_here : (x : PortRow) → In x ps → x.progress ≡ PastLimit → FirstPast r F x.port.number
     first_here x i over = record {
       past_limit = k.worked.past_ports F f x i over;
-      unfed = λ q j past g. done_within q.number (fed_done x i (inr over) q.number g) past;
+      unfed = λ q j past g. done_within q.number (fed_done k.worked (λ a n. k.worked.after_done x i (inr over) n.hop n.there n.at a n.after) g) past;
     }
 
     -- and the other way round

@@ -1,8 +1,6 @@
 -- The loads that are gathered are those of the figures that the rows show.
-use Rattle.std.proofs.Common.{◌≡◌, eqb, List, [], ◌∷◌, map, filter, sym, refl, ap, ◌∙◌, inl, inr}
-use Rattle.std.proofs.lemmas.Bool.{cases_Bool, eqb-true}
-use Rattle.definitions.specs.declared.network.Port.{Port}
-use Rattle.definitions.specs.declared.network.VirtualLink.{VirtualLink}
+use Rattle.std.proofs.Common.{◌≡◌, eqb, List, [], ◌∷◌, map, filter, sym, refl, ap, ◌∙◌, inl, inr, arith}
+use Rattle.std.proofs.lemmas.Bool.Decides.{nat_tests}
 use Rattle.definitions.specs.declared.network.Hop.{Hop}
 use Rattle.definitions.specs.Lists.{In}
 use Rattle.definitions.specs.Network.{Records, WellFormed, find_port, find_link}
@@ -20,17 +18,12 @@ module _ (r : Records) (wf : WellFormed r) (F : Figures) (ps : List PortRow) (ls
   each y at (e, l) =
       let port : x.port ≡ find_port r.ports y.hop.port = sym (row_port wf held x there) ∙ ap (find_port r.ports) (sym at) in
       let link : link_under ls y.hop.link ≡ find_link r.links y.hop.link = ap (λ zs. find_link zs y.hop.link) held.links in
-      ap (λ (p : Port). row_load p (link_under ls y.hop.link) y) port
-      ∙ ap (λ (k : VirtualLink). row_load (find_port r.ports y.hop.port) k y) link
-      ∙ rw (e, l)
+      cc
 
   kept : (zs : List HopRow) → ((y : HopRow) → In y zs → y.hop.port ≡ x.port.number → (y.earliest ≡ earliest_at F y.hop) × (y.latest ≡ latest_at F y.hop))
       → loads_at ls x.port zs ≡ map (load_of r F) (filter (λ (h : Hop). eqb h.port x.port.number) (map (λ (y : HopRow). y.hop) zs))
   kept [] right = refl
-  kept (z ∷ zs) right = elim (cases_Bool (eqb z.hop.port x.port.number)) [
-    | inl t ↦ rw t (rw (each z (eqb-true z.hop.port x.port.number t) (right z (inl refl) (eqb-true z.hop.port x.port.number t)), kept zs (λ y i. right y (inr i))))
-    | inr t ↦ rw t (kept zs (λ y i. right y (inr i)))
-  ]
+  kept (z ∷ zs) right = grind (arith, nat_tests, each z, right z (inl refl), kept zs (λ y i. right y (inr i)))
 
   pub loads_are : ((y : HopRow) → In y hs → y.hop.port ≡ x.port.number → (y.earliest ≡ earliest_at F y.hop) × (y.latest ≡ latest_at F y.hop))
       → loads_at ls x.port hs ≡ loads r F x.port.number

@@ -1,8 +1,8 @@
 -- The figures of one port.
-use Rattle.std.proofs.Common.{◌≡◌, ℕ, ◌+◌, ◌-◌, ◌/◌, ◌^◌, ◌≤◌, cond, eqb, List, [], ◌∷◌, Some, sym, ap, ◌∙◌, subst, mul-le-mul_left, arith}
-use Rattle.std.proofs.lemmas.Bool.{eq-eqb}
+use Rattle.std.proofs.Common.{◌≡◌, ℕ, ◌+◌, ◌-◌, ◌/◌, ◌^◌, ◌≤◌, cond, eqb, List, [], ◌∷◌, Some, ap, ◌∙◌, mul-le-mul_left, arith}
+use Rattle.std.proofs.lemmas.Bool.Decides.{nat_tests}
 use Rattle.definitions.specs.declared.loads.Load.{Load}
-use Rattle.definitions.specs.Lists.{In, total, largest}
+use Rattle.definitions.specs.Lists.{total, largest}
 use Rattle.definitions.specs.Loads.{AreLoads}
 use Rattle.definitions.specs.Windows.{W}
 use Rattle.definitions.specs.Methods.{Lawful, Answerable, limit}
@@ -27,13 +27,6 @@ depth_fits worth law ls b a e h =
 abbrev pub departs_at : ℕ → ℕ → HopRow → ℕ
 departs_at n b y = cond (eqb y.hop.port n) (y.latest + b) 0
 
--- no departure of the port exceeds the largest
-pub departures_within : (hs : List HopRow) (n b m : ℕ) → IsLargest (departs_at n b) hs m → m ≤ limit → (y : HopRow) → In y hs → y.hop.port ≡ n → y.latest + b ≤ limit
-departures_within hs n b m large le y i e =
-    let d = large.bounds y i in
-    let f : departs_at n b y ≡ y.latest + b = ap (λ t. cond t (y.latest + b) 0) (eq-eqb y.hop.port n e) in
-    omega arith
-
 pub figured : (worth : List Load → ℕ) (hs : List HopRow) (n : ℕ) (ls : List Load) (b d m : ℕ) → Answerable worth ls → b ≡ worth ls
     → d ≡ total (held b) ls → m ≡ largest (departs_at n b) hs → m ≤ limit → IsLargest (departs_at n b) hs (largest (departs_at n b) hs)
     → Figured worth hs n ls (Some (b, d))
@@ -41,5 +34,5 @@ figured worth hs n ls b d m a e f g le large = (
   a,
   e,
   f ∙ ap (λ x. total (held x) ls) e,
-  subst (λ x. (y : HopRow) → In y hs → y.hop.port ≡ n → y.latest + x ≤ limit) e (departures_within hs n b m (subst (IsLargest (departs_at n b) hs) (sym g) large) le),
+  λ y i at. grind (arith, nat_tests, large.bounds y i),
 )

@@ -1,16 +1,14 @@
 -- Marks that leave what was worked out as it was.
-use Rattle.std.proofs.Common.{◌≡◌, ℕ, List, map, sym, refl, ap, ◌∙◌, subst, arith}
+use Rattle.std.proofs.Common.{◌≡◌, ℕ, List, map, refl, ◌∙◌, subst, arith}
 use Rattle.definitions.specs.declared.loads.Load.{Load}
-use Rattle.definitions.specs.declared.network.Port.{Port}
-use Rattle.definitions.specs.Network.{Records, InRing}
-use Rattle.definitions.specs.Figures.{Past, depth}
+use Rattle.definitions.specs.Network.{Records}
 use Rattle.theory.proofs.Members.{in_map}
 use Rattle.working_out.specs.declared.rows.Progress.TheVariants.{WorkedOut, PastLimit}
 use Rattle.working_out.specs.declared.rows.PortRow.{PortRow}
 use Rattle.working_out.specs.declared.rows.LinkRow.{LinkRow}
 use Rattle.working_out.specs.declared.rows.HopRow.{HopRow}
 use Rattle.working_out.specs.Marks.{opened}
-use Rattle.working_out.specs.Settling.{Tried, DoneAt, RightPort, Worked, left_to_try, untried}
+use Rattle.working_out.specs.Settling.{Tried, DoneAt, Worked, left_to_try, untried}
 use Rattle.working_out.proofs.RowLists.{map_in, map_again, total_same}
 
 pub record Quiet (f : PortRow → PortRow) : Type 0 where
@@ -61,31 +59,27 @@ module _ (f : PortRow → PortRow) (q : Quiet f) (ps : List PortRow) where
   untried_same = total_same left_to_try f ps q.left
 
   module _ (r : Records) (worth : List Load → ℕ) (ls : List LinkRow) (hs : List HopRow) (w : Worked r worth ps ls hs) where
-    -- a changed row, its row before, and the same number
     pub worked_quiet : Worked r worth (map f ps) ls hs
     worked_quiet = record {
       held = record { ports = map_again (λ (x : PortRow). x.port) f ps q.port ∙ w.held.ports; links = w.held.links; hops = w.held.hops };
       after_done = λ y j t h i at n a.
           let (x, k, e) = map_in f ps y j in
-          done_after n (w.after_done x k (tried_before x (subst Tried e t)) h i (at ∙ numbers x y e) n a);
+          done_after n (w.after_done x k (tried_before x (subst Tried e t)) h i (cc (q.port x)) n a);
       no_ring = λ y j t.
           let (x, k, e) = map_in f ps y j in
-          subst (λ (n : ℕ). ¬ InRing r n) (sym (numbers x y e)) (w.no_ring x k (tried_before x (subst Tried e t)));
+          grind (arith, q.port x, tried_before x, w.no_ring x k);
       right_ports = λ F g y j d.
           let (x, k, e) = map_in f ps y j in
           let right = w.right_ports F g x k (q.done_back x cc) in
-          subst (RightPort r F) (sym e) record {
-            backlog = q.backlog x ∙ right.backlog ∙ ap (λ (p : Port). F.backlog p.number) (sym (q.port x));
-            depth_is = q.depth_same x ∙ right.depth_is ∙ ap (λ (p : Port). depth r F p.number) (sym (q.port x));
-            within = subst (λ (p : Port). ¬ Past r F p.number) (sym (q.port x)) right.within;
+          record {
+            backlog = cc (q.port x, q.backlog x);
+            depth_is = cc (q.port x, q.depth_same x);
+            within = grind (arith, q.port x, right.within);
           };
       past_ports = λ F g y j d.
           let (x, k, e) = map_in f ps y j in
-          subst (Past r F) (sym (numbers x y e)) (w.past_ports F g x k (q.past_back x cc));
+          grind (arith, q.port x, q.past_back x, w.past_ports F g x k);
       right_hops = λ F g y j t.
           let (x, k, e) = map_in f ps t.row t.there in
-          w.right_hops F g y j record { row = x; there = k; number = sym (numbers x t.row e) ∙ t.number; holds = tried_before x (subst Tried e t.holds) };
+          w.right_hops F g y j record { row = x; there = k; number = cc (q.port x); holds = tried_before x (subst Tried e t.holds) };
     }
-      where
-        numbers : (x y : PortRow) → y ≡ f x → y.port.number ≡ x.port.number
-        numbers x y e = cc (q.port x)

@@ -7,7 +7,6 @@ use Rattle.std.specs.List.{AllByRecursion, slice_get}
 use Rattle.std.proofs.ByRecursion.{All-more}
 use Rattle.std.proofs.lemmas.List.{get_or-map, length-map, take_all}
 use Rattle.std.proofs.lemmas.Option.{slice_get_within, get_or_from_slice_get}
-use Rattle.definitions.specs.declared.network.Port.{Port}
 use Rattle.definitions.specs.Lists.{In}
 use Rattle.definitions.specs.Network.{Records, WellFormed, Feeds, direct, through}
 use Rattle.theory.proofs.Members.{in_map}
@@ -42,7 +41,7 @@ pub homed : (r : Records) → WellFormed r → (xs : List PortRow) (hs : List Ho
 homed r wf xs hs ports hops h i =
     let (p, j, e) = hop_port r wf h.hop (subst (In h.hop) hops (in_map (λ (x : HopRow). x.hop) hs h i)) in
     let (x, k, f) = map_in (λ (x : PortRow). x.port) xs p (subst (In p) (sym ports) j) in
-    (x, k, ap (λ (z : Port). z.number) (sym f) ∙ e)
+    (x, k, cc)
 
 ring_told : (hs : List HopRow) (t u : Ports) (a : Option ℕ) → Remarked t u
     → (Homed (rows t) hs → FirstPort (SelfFed hs) (rows t) a) → FindsRing hs t u a
@@ -59,10 +58,7 @@ ring_told hs t u a marks first = record {
 -- the rows at one place are of one port
 number_at : (xs ys : List PortRow) → map unmarked ys ≡ map unmarked xs → (i : ℕ) (y d : PortRow) → i < length xs → Some y ≡ slice_get ys i → port_key (get_or xs i d) ≡ port_key y
 number_at xs ys e i y d lt is =
-    sym (get_or-map port_key xs i d 0 lt)
-    ∙ ap (λ ns. get_or ns i 0) (sym (same_of_marks port_key (λ x. refl) xs ys e))
-    ∙ get_or-map port_key ys i d 0 (slice_get_within ys i y (sym is))
-    ∙ ap port_key (get_or_from_slice_get ys i y d (sym is))
+    cc (get_or-map port_key xs i d 0 lt, same_of_marks port_key (λ x. refl) xs ys e, get_or-map port_key ys i d 0 (slice_get_within ys i y (sym is)), get_or_from_slice_get ys i y d (sym is))
 
 same_length : (xs ys : List PortRow) → map unmarked ys ≡ map unmarked xs → length ys ≡ length xs
 same_length xs ys e = sym (length-map ys unmarked) ∙ ap length e ∙ length-map xs unmarked

@@ -2,7 +2,6 @@
 use Rattle.std.proofs.Common.{◌≡◌, ℕ, ◌+◌, ◌<◌, ◌≤◌, Bool, true, false, cond, ◌||◌, List, [], ◌∷◌, ◌++◌, map, length, Some, None, Decides, Option, MatchOption, IsTrue, ◌↔◌, sym, refl, ap, ◌∙◌, subst, inl, inr, arith}
 use Rattle.std.specs.List.{AllByRecursion}
 use Rattle.std.proofs.ByRecursion.{All-push}
-use Rattle.definitions.specs.declared.network.Hop.{Hop}
 use Rattle.definitions.specs.Lists.{In, ascending}
 use Rattle.definitions.specs.Network.{direct, through}
 use Rattle.theory.proofs.Members.{in_map, in_all, all_in, total_map, total_less}
@@ -32,9 +31,6 @@ pub row_of_marks : (xs ys : List PortRow) → map unmarked ys ≡ map unmarked x
     → (y : PortRow) × In y ys × (unmarked x ≡ unmarked y)
 row_of_marks xs ys e x i = map_in unmarked ys (unmarked x) (subst (In (unmarked x)) (sym e) (in_map unmarked xs x i))
 
-pub remarked_same : (t : Ports) → Remarked t t
-remarked_same t = record { same_room = refl; marks_only = refl }
-
 pub remarked_on : (t u v : Ports) → Remarked t u → Remarked u v → Remarked t v
 remarked_on t u v a b = record {
   same_room = b.same_room ∙ a.same_room;
@@ -46,7 +42,7 @@ pub homed_of_marks : (xs ys : List PortRow) → map unmarked ys ≡ map unmarked
 homed_of_marks xs ys e hs homed h i =
     let (x, j, f) = homed h i in
     let (y, k, g) = row_of_marks xs ys e x j in
-    (y, k, ap port_key (sym g) ∙ f)
+    (y, k, grind arith)
 
 -- ## Marks of one port
 
@@ -55,19 +51,9 @@ pub marked_by : (p : ℕ) (xs : List PortRow) → ascending (by_key number_befor
     → (b : Bool) → MatchOption o (b ≡ false) (λ row. b ≡ row.fed) → IsTrue b ↔ Marked xs p
 marked_by p xs up (Some row) (i, e) b is = (
   λ t. (row, i, e, cc),
-  λ m. is ∙ ap (λ (x : PortRow). x.fed) (one_row xs up row m.0 i m.1 (e ∙ sym m.2)) ∙ m.3,
+  λ m. let (x, j, k, f) = m in cc (one_row xs up row x i j (e ∙ sym k)),
 )
 marked_by p xs up None none b is = (λ t. cc, λ m. absurd (none m.0 m.1 m.2))
-
--- a port that is not there, or marked already, is left
-pub left_none : (p : ℕ) (t : Ports) → (Getting port_key (rows t) p None) → Marks p t t false
-left_none p t none = (refl, λ x i e. absurd (none x i e))
-
-pub left_marked : (p : ℕ) (t : Ports) (row : PortRow) → (Getting port_key (rows t) p (Some row)) → row.fed ≡ true → Marks p t t false
-left_marked p t row got m = (
-  refl,
-  λ x j f. ap (λ (y : PortRow). y.fed) (one_row (rows t) t.ascends x row j got.0 (f ∙ sym got.1)) ∙ m,
-)
 
 -- ## Spreading
 
@@ -75,24 +61,18 @@ left_marked p t row got m = (
 abbrev after_mark : ℕ → PortRow → PortRow
 after_mark p = edited_under number_before port_key p (marked true)
 
-mark_only : (p : ℕ) (x : PortRow) → unmarked (after_mark p x) ≡ unmarked x
-mark_only p x = grind arith
-
 marks_only_after : (p : ℕ) (xs : List PortRow) → map unmarked (map (after_mark p) xs) ≡ map unmarked xs
-marks_only_after p xs = map_again unmarked (after_mark p) xs (mark_only p)
+marks_only_after p xs = map_again unmarked (after_mark p) xs (λ x. grind arith)
 
 abbrev weight : PortRow → ℕ
 weight x = cond x.fed 0 1
-
-lighter : (p : ℕ) (x : PortRow) → weight (after_mark p x) ≤ weight x
-lighter p x = grind arith
 
 -- a mark more is a row without a mark less
 one_less : (p : ℕ) (xs : List PortRow) (x : PortRow) → In x xs → port_key x ≡ p → x.fed ≡ false
     → unmarked_count (map (after_mark p) xs) < unmarked_count xs
 one_less p xs x i e f =
     let here : weight (after_mark p x) < weight x = grind (arith, under_here number_before port_key numbers_one p (marked true) x e) in
-    omega (arith, total_map weight (after_mark p) xs, total_less (λ y. weight (after_mark p y)) weight xs (λ y j. lighter p y) x i here)
+    omega (arith, total_map weight (after_mark p) xs, total_less (λ y. weight (after_mark p y)) weight xs (λ y j. grind arith) x i here)
 
 -- a hop after a port that is reached leads to a port that is fed
 fed_on : (hs : List HopRow) (p : ℕ) (xs : List PortRow) (h : HopRow) (q : ℕ) → Sound hs p xs → In h hs → h.hop.after ≡ Some q → Reached p xs q → FedBy hs p h.hop.port
@@ -112,7 +92,7 @@ sound_mark hs p n xs sound fed y i m =
 -- a hop that marks nothing
 spreads_none : (h : HopRow) (p : ℕ) (t : Ports) → (Passed p (rows t) h) → Spreads (h ∷ []) p t t false
 spreads_none h p t passed = record {
-  remarked = remarked_same t;
+  remarked = record { same_room = refl; marks_only = refl };
   sound = λ ks within old. old;
   comes = (refl, (passed, tt));
 }
@@ -127,12 +107,11 @@ spreads_next h p q t u true a reached (room, (x, i, e, f), is) = record {
   comes = omega (arith, ap unmarked_count is, one_less h.hop.port (rows t) x i e f);
 }
 spreads_next h p q t u false a reached (same, all) =
-    subst (λ v. Spreads (h ∷ []) p t v false) (sym same) (spreads_none h p t (λ m b c x i e. all x i e))
+    rw same (spreads_none h p t (λ m b c x i e. all x i e))
 
 comes_on : (hs : List HopRow) (h : HopRow) (p : ℕ) (t u v : Ports) (a b : Bool)
     → Comes hs p t u a → Comes (h ∷ []) p u v b → Comes (hs ++ (h ∷ [])) p t v (a || b)
-comes_on hs h p t u v true true less also = omega (arith, less, also)
-comes_on hs h p t u v true false less (same, passed) = grind arith
+comes_on hs h p t u v true b less y = grind arith
 comes_on hs h p t u v false true (same, passed) less = grind arith
 comes_on hs h p t u v false false (same, passed) (also, here) =
     (also ∙ same, All-push (Passed p (rows t)) hs h passed (subst (λ (x : Ports). Passed p (rows x) h) same here.0))
@@ -157,7 +136,7 @@ Spreading hs p t i u =
     × (unmarked_count (rows u) + i ≤ length (rows t))
 
 -- no more rows are without a mark than there are
-few_unmarked : (xs : List PortRow) → unmarked_count xs ≤ length xs
+pub few_unmarked : (xs : List PortRow) → unmarked_count xs ≤ length xs
 few_unmarked [] = omega arith
 few_unmarked (x ∷ xs) = grind (arith, few_unmarked xs)
 
@@ -165,9 +144,6 @@ few_unmarked (x ∷ xs) = grind (arith, few_unmarked xs)
 all_marked : (xs : List PortRow) → unmarked_count xs ≡ 0 → (x : PortRow) → In x xs → x.fed ≡ true
 all_marked [] e x i = absurd i
 all_marked (y ∷ xs) e x i = grind (arith, all_marked xs)
-
-pub spreading_none : (hs : List HopRow) (p : ℕ) (t : Ports) → Spreading hs p t 0 t
-spreading_none hs p t = (remarked_same t, λ old. old, omega (arith, few_unmarked (rows t)))
 
 -- after as many passes as there are rows all are marked
 pub spread_out : (hs : List HopRow) (p : ℕ) (t u : Ports) (i : ℕ) → Spreading hs p t i u → length (rows t) ≤ i → SpreadsAll hs p t u
@@ -194,7 +170,7 @@ fed_marked : (hs : List HopRow) (p : ℕ) (xs : List PortRow) → Homed xs hs �
 fed_marked hs p xs homed passed (direct {q = q} f) reached =
     let (h, i, e) = map_in (λ (x : HopRow). x.hop) hs f.hop f.there in
     let (x, j, k) = homed h i in
-    (x, j, k ∙ ap (λ (z : Hop). z.port) (sym e) ∙ f.at, in_all (Passed p xs) hs passed h i q (ap (λ (z : Hop). z.after) (sym e) ∙ f.after) reached x j k)
+    (x, j, cc, in_all (Passed p xs) hs passed h i q (cc) reached x j k)
 fed_marked hs p xs homed passed (through a b) reached =
     fed_marked hs p xs homed passed b (inr (fed_marked hs p xs homed passed a reached))
 

@@ -11,8 +11,8 @@ use Rattle.definitions.specs.Lists.{In, total}
 use Rattle.definitions.specs.Loads.{AreLoads}
 use Rattle.definitions.specs.Windows.{Overloaded}
 use Rattle.definitions.specs.Methods.{limit}
-use Rattle.definitions.specs.Network.{Records, FeedsNext, Feeds, InRing, latency}
-use Rattle.definitions.specs.Figures.{Figures, FiguresOf, Past, latest_at, loads, hops_at, departure}
+use Rattle.definitions.specs.Network.{Records, FeedsNext, InRing, latency}
+use Rattle.definitions.specs.Figures.{Figures, FiguresOf, Past, latest_at, loads, hops_at}
 use Rattle.theory.proofs.Keys.{before_hop}
 use Rattle.theory.proofs.PortLoads.{loads_within, demand_still}
 use Rattle.working_out.specs.declared.rows.Progress.TheVariants.{Open, WorkedOut, PastLimit}
@@ -24,7 +24,8 @@ use Rattle.working_out.specs.Settling.{Setting, DoneAt, RightHop, RightPort, Wor
 use Rattle.working_out.proofs.Held.{port_in, hop_in, hop_row}
 use Rattle.working_out.proofs.RowLists.{at_in, set_in, other_in_set, total_set}
 use Rattle.working_out.proofs.Tabled.{ports_ordered, one_row}
-use Rattle.working_out.proofs.Fed.{last_step, goes_back}
+use Rattle.working_out.proofs.Fed.{fed_done}
+use Rattle.working_out.proofs.Arrived.{departure_within}
 use Rattle.working_out.proofs.LoadsOf.{loads_are}
 
 module _ (r : Records) (worth : List Load → ℕ) (s : Setting r worth) (ps : List PortRow) (ls : List LinkRow) (hs : List HopRow)
@@ -51,17 +52,8 @@ module _ (r : Records) (worth : List Load → ℕ) (s : Setting r worth) (ps : L
       let (y, j, e) = hop_row a.worked.held f.hop f.there in
       (known_here y j cc).1 q cc
 
-  -- what feeds a port that is worked out is worked out
-  done_back : {q p : ℕ} → Feeds r q p → DoneAt ps p → DoneAt ps q
-  done_back = goes_back r (DoneAt ps) (λ q p f d. a.worked.after_done d.row d.there (inl d.holds) f.hop f.there (f.at ∙ sym d.number) q f.after)
-
   pub no_ring_here : ¬ InRing r x.port.number
-  no_ring_here f =
-      let (q, step, before) = last_step r f in
-      elim before [
-        | inl e ↦ not_done (subst (DoneAt ps) (sym e) (fed_by_done q step))
-        | inr g ↦ not_done (done_back g (fed_by_done q step))
-      ]
+  no_ring_here f = not_done (fed_done a.worked fed_by_done f)
 
   module _ (F : Figures) (f : FiguresOf r worth F) where
     -- the loads of the port
@@ -76,15 +68,9 @@ module _ (r : Records) (worth : List Load → ℕ) (s : Setting r worth) (ps : L
         let d = fed_by_done q record { hop = h; there = j; at = e; after = after } in
         let right = a.worked.right_ports F f d.row d.there d.holds in
         let (k, m, link, port) = before_hop r s.well_formed h j q after in
-        let dep = within k m d.row.port.number (port ∙ sym d.number) right.within in
+        let dep = departure_within r F d.row.port.number right.within k m (port ∙ sym d.number) in
         let same = ap (λ l. F.latest l k.port) (sym link) in
         omega (arith, f.next_latest h j q after, ap (F.latest h.link) (sym port), ap F.backlog (sym port))
-      where
-        within : (k : Hop) → In k r.hops → (p : ℕ) → k.port ≡ p → ¬ Past r F p → departure F k ≤ limit
-        within k m p g w = elim (dec_le (departure F k) limit) [
-          | yes le ↦ le
-          | no over ↦ absurd (w (inr (k, m, g, omega arith)))
-        ]
 
     are_loads : AreLoads (loads r F x.port.number)
     are_loads = loads_within r s.well_formed F x.port.number (λ h j e. reached h j e h.after refl)
@@ -123,9 +109,6 @@ module _ (r : Records) (worth : List Load → ℕ) (s : Setting r worth) (ps : L
   -- ## The rows with the port tried
 
   module _ (gs : List Load) (gathered : gs ≡ loads_at ls x.port hs) (o : Option (ℕ × ℕ)) (told : Figured worth hs x.port.number gs o) where
-    same_port : (o : Option (ℕ × ℕ)) → (settled_row x o).port ≡ x.port
-    same_port o = grind arith
-
     pub not_open : (o : Option (ℕ × ℕ)) → ¬ ((settled_row x o).progress ≡ Open)
     not_open o e = grind arith
 
@@ -145,12 +128,12 @@ module _ (r : Records) (worth : List Load → ℕ) (s : Setting r worth) (ps : L
     ]
 
     numbered : (z : PortRow) → z ≡ settled_row x o → z.port.number ≡ x.port.number
-    numbered z e = cc (same_port o)
+    numbered z e = grind arith
 
     worked_on : Worked r worth (set ps i (settled_row x o)) ls hs
     worked_on = record {
       held = record {
-        ports = map-set_same (λ (z : PortRow). z.port) ps i (settled_row x o) x (cc (same_port o, get_or_from_slice_get ps i x x (sym at))) ∙ a.worked.held.ports;
+        ports = map-set_same (λ (z : PortRow). z.port) ps i (settled_row x o) x (grind (arith, get_or_from_slice_get ps i x x (sym at))) ∙ a.worked.held.ports;
         links = a.worked.held.links;
         hops = a.worked.held.hops;
       };
@@ -158,18 +141,9 @@ module _ (r : Records) (worth : List Load → ℕ) (s : Setting r worth) (ps : L
         | inl same ↦ done_on q (fed_by_done q record { hop = h; there = k; at = e ∙ numbered z same; after = after })
         | inr m ↦ done_on q (a.worked.after_done z m t h k e q after)
       ];
-      no_ring = λ z j t. elim (set_in ps i (settled_row x o) z j) [
-        | inl same ↦ subst (λ m. ¬ InRing r m) (sym (numbered z same)) no_ring_here
-        | inr m ↦ a.worked.no_ring z m t
-      ];
-      right_ports = λ F f z j done. elim (set_in ps i (settled_row x o) z j) [
-        | inl same ↦ subst (RightPort r F) (sym same) (right_now F f o told cc)
-        | inr m ↦ a.worked.right_ports F f z m done
-      ];
-      past_ports = λ F f z j past. elim (set_in ps i (settled_row x o) z j) [
-        | inl same ↦ subst (Past r F) (sym (numbered z same)) (past_now F f o told cc)
-        | inr m ↦ a.worked.past_ports F f z m past
-      ];
+      no_ring = λ z j t. grind (arith, set_in ps i (settled_row x o) z j, numbered z, no_ring_here, a.worked.no_ring z);
+      right_ports = λ F f z j done. grind (arith, set_in ps i (settled_row x o) z j, right_now F f o told, a.worked.right_ports F f z);
+      past_ports = λ F f z j past. grind (arith, set_in ps i (settled_row x o) z j, numbered z, past_now F f o told, a.worked.past_ports F f z);
       right_hops = λ F f y j t. elim (set_in ps i (settled_row x o) t.row t.there) [
         | inl same ↦ (known_here y j (sym t.number ∙ numbered t.row same)).0 F f
         | inr m ↦ a.worked.right_hops F f y j record { row = t.row; there = m; number = t.number; holds = t.holds }

@@ -1,5 +1,5 @@
 -- What trying ports makes of their table.
-use Rattle.std.proofs.Common.{◌≡◌, ℕ, ◌+◌, ◌<◌, ◌≤◌, Bool, true, false, ◌||◌, List, length, take, set, Some, Option, sym, ap, ◌∙◌, subst, inl, inr, arith, length-set}
+use Rattle.std.proofs.Common.{◌≡◌, ℕ, ◌+◌, ◌<◌, ◌≤◌, Bool, true, false, ◌||◌, List, length, set, Some, Option, sym, ap, ◌∙◌, subst, arith, length-set}
 use Rattle.std.specs.List.{slice_get}
 use Rattle.std.proofs.lemmas.List.{take_all}
 use Rattle.std.proofs.lemmas.Option.{slice_get_within, slice_get-get_or}
@@ -40,20 +40,14 @@ settle_more r worth ls hs i ps qs vs any false lt old (same, shut) = record {
   known = subst (λ (zs : List PortRow). Known r worth zs ls hs (length hs)) (sym same) old.known;
   none_open = λ x j.
       let lt' : i < length qs = omega (arith, lt, old.same_count) in
-      elim (take_more_in qs i x x lt' (subst (λ (zs : List PortRow). In x (take (i + 1) zs)) same j)) [
-        | inl e ↦ shut x (ap Some e ∙ sym (slice_get-get_or qs i x lt'))
-        | inr k ↦ old.none_open x k
-      ];
+      grind (arith, take_more_in qs i x x lt' (rw same at j), slice_get-get_or qs i x lt', shut x, old.none_open x);
   same_count = ap length same ∙ old.same_count;
   same = λ e. same ∙ old.same (grind arith);
   fewer = λ e. grind (arith, old.fewer);
 }
 settle_more r worth ls hs i ps qs vs any true lt old (x, within, now-is, shut, known, less) = record {
   known = known;
-  none_open = λ z j. elim (take_set_in qs i x z within (subst (λ (zs : List PortRow). In z (take (i + 1) zs)) now-is j)) [
-    | inl e ↦ λ f. shut cc
-    | inr k ↦ old.none_open z k
-  ];
+  none_open = λ z j. grind (arith, take_set_in qs i x z within (rw now-is at j), old.none_open z);
   same_count = ap length now-is ∙ length-set qs i x ∙ old.same_count;
   same = λ e. absurd (grind arith);
   fewer = λ e. grind (arith, old.fewer, old.same);

@@ -15,6 +15,7 @@ fn is_marked(ports: &Table<PortRow>, port: u8) -> bool
 }
 
 // Marks the port, and tells whether it was there without a mark.
+#[tactic(auto, using(crate::proofs::Tabled::one_row))]
 fn mark_port(ports: &mut Table<PortRow>, port: u8) -> bool
     ensures { Marks port ports.old ports.new result }
 {
@@ -53,6 +54,7 @@ fn spread(ports: &mut Table<PortRow>, hops: &[HopRow], from: u8) -> bool
 }
 
 // Spreads the marks from `from` until nothing is added: at most once for every port.
+#[tactic(auto, using(crate::proofs::RingMarks::few_unmarked))]
 fn spread_all(ports: &mut Table<PortRow>, hops: &[HopRow], from: u8)
     ensures { SpreadsAll hops.now from ports.old ports.new }
 {

@@ -101,6 +101,7 @@ fn round<M: Method>(
 }
 
 // Works out figures in rounds until nothing more can be worked out: at most one round for each port.
+#[tactic(auto, using(crate::proofs::Rounds::untried_most))]
 pub(crate) fn settle_all<M: Method>(
     ports: &mut Table<PortRow>,
     links: &Table<LinkRow>,
@@ -121,7 +122,6 @@ pub(crate) fn settle_all<M: Method>(
 }
 
 // The first port with this progress.
-#[tactic(auto, using(crate::proofs::Gathered::first_found))]
 pub(crate) fn first_with(ports: &[PortRow], progress: Progress) -> Option<u8>
     ensures { FirstPort (λ (x : Row). x.progress ≡ progress) ports.now result }
 {

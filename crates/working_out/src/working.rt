@@ -53,6 +53,7 @@ fn judge(ports: &mut Table<PortRow>, hops: &[HopRow]) -> Result<(), Refusal>
 
 // Works out the figures of the network in the tables by the method, over a load table with a place for every hop.
 // Every refusal leaves all figures zero.
+#[tactic(auto, using(crate::proofs::Concluding::works_short, crate::proofs::Concluding::works_overloaded))]
 pub fn work_out<M: Method>(
     ports: &mut Table<PortRow>,
     links: &Table<LinkRow>,

@@ -1,4 +1,4 @@
-use Rattle.std.proofs.Common.{◌≡◌, ℕ, length, ◌∙◌, subst, arith}
+use Rattle.std.proofs.Common.{◌≡◌, length, ◌∙◌, subst, arith}
 use Rattle.register.specs.Tables.{rows}
 use Rattle.working_out.specs.Settling.{Advance}
 use Rattle.working_out.proofs.Passed.{pass_more}
@@ -17,4 +17,4 @@ loop-place-preserved c =
 pub returns-clause-advances : goal.returns-clause-advances
 returns-clause-advances c =
     let end : c.loop-place.place ≡ length (rows c.args.hops.now) = omega (arith, c.loop-place-test.false, c.loop-place.auto.place-end, c.count-place-end.ensures.is) in
-    subst (λ (n : ℕ). Advance c.args.ports.now c.args.links.now c.args.hops.now c.loop-place.ports c.loop-place.hops 0 n) end c.loop-place.invariant.3
+    subst (Advance c.args.ports.now c.args.links.now c.args.hops.now c.loop-place.ports c.loop-place.hops 0) end c.loop-place.invariant.3

@@ -1,13 +1,9 @@
 use Rattle.std.proofs.Common.{true, refl, rules}
 use Rattle.working_out.specs.Rings.{marked}
-use Rattle.working_out.proofs.RingMarks.{left_none, left_marked}
 use Rattle.working_out.proofs.rings.mark_port.Goals as goal
 
 pub returns-in_default : goal.returns-in_default
-returns-in_default c = left_none c.args.port c.args.ports.now c.in_default.ensures
-
-pub returns-then-row : goal.returns-then-row
-returns-then-row c = left_marked c.args.port c.args.ports.now c.in-Some.row c.in-Some.ensures c.if-row.true
+returns-in_default c = (refl, λ x i e. absurd (c.in_default.ensures x i e))
 
 pub returns : goal.returns
 returns c =

@@ -1,9 +1,6 @@
 use Rattle.std.proofs.Common.{arith}
-use Rattle.working_out.proofs.RingMarks.{spreading_none, spread_out}
+use Rattle.working_out.proofs.RingMarks.{spread_out}
 use Rattle.working_out.proofs.rings.spread_all.Goals as goal
-
-pub loop-init : goal.loop-init
-loop-init c = spreading_none c.args.hops.now c.args.from c.args.ports.now
 
 pub returns : goal.returns
 returns c =

@@ -1,10 +1,7 @@
-use Rattle.std.proofs.Common.{refl, arith}
+use Rattle.std.proofs.Common.{arith}
 use Rattle.register.specs.Tables.{rows}
-use Rattle.working_out.proofs.Rounds.{untried_most, none_left}
+use Rattle.working_out.proofs.Rounds.{none_left}
 use Rattle.working_out.proofs.settling.settle_all.Goals as goal
-
-pub loop-init : goal.loop-init
-loop-init g c = (refl, refl, refl, λ r s w. (w, omega (arith, untried_most (rows c.args.ports.now))))
 
 pub returns-clause-stuck : goal.returns-clause-stuck
 returns-clause-stuck g c r s w =

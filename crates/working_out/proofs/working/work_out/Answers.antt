@@ -1,17 +1,6 @@
 use Rattle.std.proofs.Common.{length, sym, arith}
-use Rattle.working_out.proofs.Concluding.{works_short, works_overloaded, works_refused, works_settled}
+use Rattle.working_out.proofs.Concluding.{works_refused, works_settled}
 use Rattle.working_out.proofs.working.work_out.Goals as goal
-
-pub returns-then-loads-count-clause-works : goal.returns-then-loads-count-clause-works
-returns-then-loads-count-clause-works g c wf =
-    works_short (g.M.Method.worth c.args.method.now) (g.met.M.Method.lawful c.args.method.now) (length c.args.loads.now) c.args.ports.now c.args.links.now c.args.hops.now wf
-    c.clear_figures.new.ports c.clear_figures.new.hops c.clear_figures.ensures (omega (arith, c.if-loads-count.true, c.count.ensures.is))
-
-pub returns-in-Some-clause-works : goal.returns-in-Some-clause-works
-returns-in-Some-clause-works g c wf =
-    works_overloaded (g.M.Method.worth c.args.method.now) (g.met.M.Method.lawful c.args.method.now) (length c.args.loads.now) c.args.ports.now c.args.links.now c.args.hops.now wf
-    c.clear_figures.new.ports c.clear_figures.new.hops c.clear_figures.ensures
-    (omega (arith, c.if-loads-count.false, c.count.ensures.is)) c.in-Some.port (rw (c.all.ensures, c.all-2.ensures) at c.in-Some.ensures)
 
 pub returns-then-is_err-clause-works : goal.returns-then-is_err-clause-works
 returns-then-is_err-clause-works g c wf =
