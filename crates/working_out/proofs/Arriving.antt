@@ -1,5 +1,5 @@
 -- What is told of the arrivals at a hop.
-use Rattle.std.proofs.Common.{◌≡◌, ℕ, true, List, Some, None, inr, arith}
+use Rattle.std.proofs.Common.{◌≡◌, ℕ, true, List, Option, Some, None, MatchOption, inr, arith}
 use Rattle.definitions.specs.declared.network.Hop.{Hop}
 use Rattle.definitions.specs.Lists.{ascending}
 use Rattle.register.specs.Tables.{by_key, Getting}
@@ -24,6 +24,12 @@ module _ (ps : List PortRow) (ls : List LinkRow) (hs : List HopRow) (h : Hop) (q
         let same : b.port ≡ x = one_row ps up b.port x b.port_there i cc in
         not_done cc,
   )
+
+  -- where the row under the port, if there is one, was let through only if its figures are worked out
+  pub port_out : ascending (by_key number_before port_key) ps ≡ true → (o : Option PortRow) → Getting port_key ps q o
+      → MatchOption o (Unit {0}) (λ x. ¬ (x.progress ≡ WorkedOut)) → Arrives ps ls hs h None
+  port_out up None none _ = port_unknown none
+  port_out up (Some x) got not_done = port_undone up x got not_done
 
   pub hop_unknown : Getting hop_key hs (h.link, q) None → Arrives ps ls hs h None
   hop_unknown none = (q, after, λ b. none b.hop b.hop_there cc)

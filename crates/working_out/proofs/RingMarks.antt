@@ -1,6 +1,7 @@
 -- RingMarks: the ports that a port feeds, marked in their rows.
-use Rattle.std.proofs.Common.{◌≡◌, ℕ, ◌+◌, ◌<◌, ◌≤◌, Bool, true, false, cond, ◌||◌, List, [], ◌∷◌, ◌++◌, map, length, Some, None, Decides, Option, MatchOption, IsTrue, ◌↔◌, sym, refl, ap, ◌∙◌, subst, inl, inr, arith}
+use Rattle.std.proofs.Common.{◌≡◌, ℕ, ◌+◌, ◌<◌, ◌≤◌, Bool, true, false, cond, ◌||◌, not, List, [], ◌∷◌, ◌++◌, map, length, Some, None, Decides, Option, MatchOption, IsTrue, ◌↔◌, sym, refl, ap, ◌∙◌, subst, inl, inr, arith}
 use Rattle.std.specs.List.{AllByRecursion}
+use Rattle.std.proofs.lemmas.Bool.{not-true}
 use Rattle.std.proofs.ByRecursion.{All-push}
 use Rattle.definitions.specs.Lists.{In, ascending}
 use Rattle.definitions.specs.Network.{direct, through}
@@ -54,6 +55,20 @@ marked_by p xs up (Some row) (i, e) b is = (
   λ m. let (x, j, k, f) = m in cc (one_row xs up row x i j (e ∙ sym k)),
 )
 marked_by p xs up None none b is = (λ t. cc, λ m. absurd (none m.0 m.1 m.2))
+
+not_false : (b : Bool) → not b ≡ false → b ≡ true
+not_false true e = refl
+not_false false e = sym e
+
+-- what it says where there is to be a row without a mark
+pub unmarked_by : (p : ℕ) (xs : List PortRow) → ascending (by_key number_before port_key) xs ≡ true → (o : Option PortRow) → Getting port_key xs p o
+    → (b : Bool) → MatchOption o (b ≡ false) (λ row. b ≡ not row.fed)
+    → (b ≡ true → (x : PortRow) × In x xs × (port_key x ≡ p) × (x.fed ≡ false)) × (b ≡ false → (x : PortRow) → In x xs → port_key x ≡ p → x.fed ≡ true)
+unmarked_by p xs up (Some row) (i, e) b is = (
+  λ t. (row, i, e, not-true row.fed (sym is ∙ t)),
+  λ f x j k. ap (λ (y : PortRow). y.fed) (one_row xs up x row j i (k ∙ sym e)) ∙ not_false row.fed (sym is ∙ f),
+)
+unmarked_by p xs up None none b is = (λ t. cc, λ f x j k. absurd (none x j k))
 
 -- ## Spreading
 

@@ -25,10 +25,9 @@ fn arrival(
     let Some(before) = hop.after else {
         return Some((0, 0));
     };
-    let port = ports.get(before)?;
-    let Progress::WorkedOut = port.progress else {
-        return None;
-    };
+    let port = ports
+        .get(before)
+        .filter(|row| row.progress == Progress::WorkedOut)?;
     let row = hops.get((hop.link, before))?;
     let shortest = u64::from(link_under(links, hop.link).shortest) * byte_time(&port.port);
     let earliest = row.earliest.saturating_add(shortest + LATENCY);

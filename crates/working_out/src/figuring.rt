@@ -7,7 +7,8 @@ use definitions::loads::Load;
 use folds::Measure;
 use methods::{LIMIT, Method};
 
-// How many frames of a load a port of this backlog holds at most.
+// How many frames of a load a port of this backlog holds at most. The count is that of the windows of `methods`, where it is
+// private: to hand it out would take more than the line that it saves here.
 #[derive(Drop)]
 struct HeldFrames {
     backlog: u64,
@@ -20,11 +21,7 @@ impl Measure for HeldFrames {
 
     fn of(&self, load: &Load) -> Option<u64> {
         let since = u128::from(self.backlog.saturating_sub(1)) + u128::from(load.jitter);
-        let gaps = if load.gap == 0 {
-            0
-        } else {
-            since / u128::from(load.gap)
-        };
+        let gaps = since.checked_div(u128::from(load.gap)).unwrap_or(0);
         u64::try_from(1 + gaps).ok()
     }
 }

@@ -1,7 +1,7 @@
 // Rings: the lowest port that feeds itself. The ports that a port feeds are marked in their rows.
 ghost use Rattle.std.specs.Prelude.{[], ◌∷◌, ◌↔◌, IsTrue};
 ghost use Rattle.register.specs.Tables.{rows};
-ghost use Rattle.working_out.specs.Rings.{Marked, Marks, Spreads, SpreadsAll, FeedsItself, FindsRing};
+ghost use Rattle.working_out.specs.Rings.{Marked, Reached, Marks, Spreads, SpreadsAll, FeedsItself, FindsRing};
 
 use crate::edits::{edit_all, edit_under};
 use crate::rows::{HopRow, PortRow};
@@ -19,27 +19,28 @@ fn is_marked(ports: &Table<PortRow>, port: u8) -> bool
 fn mark_port(ports: &mut Table<PortRow>, port: u8) -> bool
     ensures { Marks port ports.old ports.new result }
 {
-    let Some(row) = ports.get(port) else {
-        return false;
-    };
-    if row.fed {
+    if !ports.get(port).is_some_and(|row| !row.fed) {
         return false;
     }
     edit_under(ports, port, |row| row.marked(true));
     true
 }
 
+// Whether the port is `from`, or marked.
+fn is_reached(ports: &Table<PortRow>, from: u8, port: u8) -> bool
+    ensures { IsTrue result ↔ Reached from (rows ports.now) port }
+{
+    port == from || is_marked(ports, port)
+}
+
 // Marks the port of the hop if it comes after `from` or after a port that is marked.
 fn feed_next(ports: &mut Table<PortRow>, row: &HopRow, from: u8) -> bool
     ensures { Spreads (row.now ∷ []) from ports.old ports.new result }
 {
-    let Some(before) = row.hop.after else {
-        return false;
-    };
-    if before != from && !is_marked(ports, before) {
-        return false;
+    match row.hop.after {
+        Some(before) if is_reached(ports, from, before) => mark_port(ports, row.hop.port),
+        _ => false,
     }
-    mark_port(ports, row.hop.port)
 }
 
 // Marks the ports that come next after `from` and the marked ports, and tells whether any was added.

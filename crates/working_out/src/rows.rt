@@ -21,9 +21,10 @@ pub enum Progress {
     PastLimit,
 }
 
-// A port, with its worst backlog in ns and its queue depth in frames, both 0 while they are not worked out: in the case
-// `WorkedOut` of `progress` each reader would need an arm that tells 0. The last two are for the working-out: how far it
-// has come with the port, and whether the port that is being tried for a ring feeds it.
+// A port, with its worst backlog in ns and its queue depth in frames, both 0 while they are not worked out. They stand beside
+// `progress` and not in its case `WorkedOut`, where each reader would need an arm that tells 0 for the other cases. The last
+// two fields are for the working-out: how far it has come with the port, and whether the port that is being tried for a ring
+// feeds it; marks in the rows, since no memory is taken from the heap for a set of ports.
 #[derive(Clone, Copy, Default)]
 pub struct PortRow {
     pub port: Port,
@@ -59,7 +60,7 @@ impl PortRow {
     }
 }
 
-// A virtual link.
+// A virtual link: a type of its own, since this crate can give the register's trait only to its own types.
 #[derive(Clone, Copy, Default)]
 pub struct LinkRow {
     pub link: VirtualLink,

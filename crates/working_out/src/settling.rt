@@ -1,6 +1,7 @@
 // Rounds in which the figures of one port after another are worked out. Tables, method and loads are passed one by one and
 // not as one struct: so a signature says what a step may change, the links never and the hops only between rounds. That the
-// loads have a place for every hop is a fact of two parameters, and so a `requires`.
+// loads have a place for every hop is a fact of two parameters, and so a `requires`: a struct of both would be taken apart again
+// for each step that changes the hops or fills the loads.
 ghost use Rattle.std.specs.Prelude.{◌≡◌, ◌≤◌, List, length};
 ghost use Rattle.definitions.specs.Network.{Records};
 ghost use Rattle.register.specs.Tables.{rows, room};
@@ -31,10 +32,8 @@ fn settle<M: Method>(
     ensures same_room { room ports.new ≡ room ports.old }
     ensures settles { (r : Records) → Setting r (M.Method.worth method.now) → Known r (M.Method.worth method.now) (rows ports.old) (rows links.now) hops.now (length hops.now) → Settles r (M.Method.worth method.now) (rows links.now) hops.now place (rows ports.old) (rows ports.new) result }
 {
-    let Some(row) = ports.at(place) else {
-        return false;
-    };
-    let Progress::Open = row.progress else {
+    let open = ports.at(place).filter(|row| row.progress == Progress::Open);
+    let Some(row) = open else {
         return false;
     };
     let count = gather(links, hops, &row.port, loads);
