@@ -1,14 +1,16 @@
 -- What a call did is a call more in every list of calls that led to the book.
-use Rattle.std.proofs.Common.{◌≡◌, ℕ, zero, suc, List, [], ◌∷◌, ◌++◌, map, Some, None, Ok, Option, Result, MatchOption, sym, refl, ap, ◌∙◌, subst, arith}
+use Rattle.std.proofs.Common.{◌≡◌, ℕ, ◌≤◌, List, [], ◌∷◌, ◌++◌, map, length, Some, None, Ok, Option, Result, MatchOption, sym, refl, ap, ◌∙◌, subst, arith}
 use Rattle.std.specs.List.{AllByRecursion, slice_get}
+use Rattle.std.specs.Option.{option_map}
+use Rattle.std.proofs.lemmas.Option.{slice_get-map}
 use Rattle.definitions.specs.declared.network.Port.{Port}
 use Rattle.definitions.specs.declared.network.VirtualLink.{VirtualLink}
 use Rattle.definitions.specs.declared.network.Hop.{Hop}
 use Rattle.definitions.specs.declared.refusals.Refusal.{Refusal}
 use Rattle.definitions.specs.Network.{Records}
-use Rattle.definitions.specs.Entries.{Places, Entry, entry_ground, entered, removal_ground, removed, no_records}
+use Rattle.definitions.specs.Entries.{Places, Entry, port_entry, link_entry, hop_entry, entry_ground, entered, removal_ground, removed, no_records}
 use Rattle.definitions.specs.Figures.{Figures, Settled, depth, earliest_at, latest_at}
-use Rattle.definitions.specs.Calls.{State, Call, Answer, done, enter, remove_link, clear, opened, Fits, changed, DoesOrRefuses, Does, Runs}
+use Rattle.definitions.specs.Calls.{State, Call, Answer, done, enter, remove_link, clear, count_ports, count_links, count_hops, port_at, link_at, hop_at, count, port_is, link_is, hop_is, opened, Fits, changed, DoesOrRefuses, Does, Runs}
 use Rattle.register.specs.Tables.{rows}
 use Rattle.theory.proofs.SoundRuns.{every_run_is_sound, runs_push}
 use Rattle.working_out.specs.declared.rows.PortRow.{PortRow}
@@ -78,12 +80,24 @@ adds c fits g after does b d (Some f) left r same h cs as' m =
     }
 
 -- an entry
-pub entry_adds : (e : Entry) → Fits (enter e) → (b d : Book) (r : Result (Unit {0}) Refusal)
+entry_adds : (e : Entry) → Fits (enter e) → (b d : Book) (r : Result (Unit {0}) Refusal)
     → Doing (entry_ground (places b) (records b) e) (entered (records b) e) b d r → Adds (enter e) (answer_of r) b d
 entry_adds e fits b d r h =
     adds (enter e) fits (λ s. entry_ground s.places s.records e) (λ s. entered s.records e) (λ s a t k. k) b d
     (entry_ground (places b) (records b) e) (entered (records b) e) r
     (λ s held at. (ap (λ x. entry_ground x (records b) e) at ∙ ap (λ x. entry_ground s.places x e) held, ap (λ x. entered x e) held)) h
+
+pub port_adds : (p : Port) → p.number ≤ 255 → (b d : Book) (r : Result (Unit {0}) Refusal)
+    → Doing (entry_ground (places b) (records b) (port_entry p)) (entered (records b) (port_entry p)) b d r → Adds (enter (port_entry p)) (answer_of r) b d
+port_adds p = entry_adds (port_entry p)
+
+pub link_adds : (l : VirtualLink) → l.number ≤ 65535 → (b d : Book) (r : Result (Unit {0}) Refusal)
+    → Doing (entry_ground (places b) (records b) (link_entry l)) (entered (records b) (link_entry l)) b d r → Adds (enter (link_entry l)) (answer_of r) b d
+link_adds l = entry_adds (link_entry l)
+
+pub hop_adds : (h : Hop) → (b d : Book) (r : Result (Unit {0}) Refusal)
+    → Doing (entry_ground (places b) (records b) (hop_entry h)) (entered (records b) (hop_entry h)) b d r → Adds (enter (hop_entry h)) (answer_of r) b d
+hop_adds h = entry_adds (hop_entry h) tt
 
 -- a removal
 pub removal_adds : (l : ℕ) → (b d : Book) (r : Result (Unit {0}) Refusal)
@@ -110,21 +124,29 @@ question_adds c fits a b does cs as' m = record {
 }
 
 -- one that looks at the records only
-pub asking_adds : (c : Call) → Fits c → (a : Answer) (b : Book) → ((s : State) → records b ≡ s.records → Does s c a s) → Adds c a b b
-asking_adds c fits a b does = question_adds c fits a b (λ cs as' m. does m.state m.holds)
+asks : {X : Type 0} (c : Call) → Fits c → (answer : X → Answer) (told : Records → X) → ((s : State) (a : Answer) → a ≡ answer (told s.records) → Does s c a s)
+    → (b : Book) (x : X) → x ≡ told (records b) → Adds c (answer x) b b
+asks c fits answer told does b x is = question_adds c fits (answer x) b (λ cs as' m. does m.state (answer x) (ap answer (is ∙ ap told m.holds)))
+
+pub port_count_adds : (b : Book) (n : ℕ) → n ≡ length (records b).ports → Adds count_ports (count n) b b
+port_count_adds = asks count_ports tt count (λ r. length r.ports) (λ s a e. (e, refl))
+
+pub link_count_adds : (b : Book) (n : ℕ) → n ≡ length (records b).links → Adds count_links (count n) b b
+link_count_adds = asks count_links tt count (λ r. length r.links) (λ s a e. (e, refl))
+
+pub hop_count_adds : (b : Book) (n : ℕ) → n ≡ length (records b).hops → Adds count_hops (count n) b b
+hop_count_adds = asks count_hops tt count (λ r. length r.hops) (λ s a e. (e, refl))
 
 -- the record of the row at a place
-nth_map_some : {R S : Type 0} (f : R → S) (xs : List R) (i : ℕ) (x : R) → Some x ≡ slice_get xs i → Some (f x) ≡ slice_get (map f xs) i
-nth_map_some f [] i x e = let z : ◌≡◌ {A = ℕ} 0 1 = cc in absurd (omega arith)
-nth_map_some f (y ∷ ys) zero x e = let q : x ≡ y = cc in ap (λ z. Some (f z)) q
-nth_map_some f (y ∷ ys) (suc i) x e = nth_map_some f ys i x e
+at_place : {R S : Type 0} (f : R → S) (xs : List R) (i : ℕ) (o : Option R) → o ≡ slice_get xs i → (r : Option S) → MatchOption o (r ≡ None) (λ x. r ≡ Some (f x)) → r ≡ slice_get (map f xs) i
+at_place f xs i (Some x) e r is = is ∙ ap (option_map f) e ∙ sym (slice_get-map f xs i)
+at_place f xs i None e r is = is ∙ ap (option_map f) e ∙ sym (slice_get-map f xs i)
 
-nth_map_none : {R S : Type 0} (f : R → S) (xs : List R) (i : ℕ) → None ≡ slice_get xs i → None ≡ slice_get (map f xs) i
-nth_map_none f [] i e = refl
-nth_map_none f (y ∷ ys) zero e = let z : ◌≡◌ {A = ℕ} 0 1 = cc in absurd (omega arith)
-nth_map_none f (y ∷ ys) (suc i) e = nth_map_none f ys i e
+pub port_at_adds : (b : Book) (i : ℕ) (o : Option PortRow) → o ≡ slice_get (rows b.ports) i → (r : Option Port) → MatchOption o (r ≡ None) (λ x. r ≡ Some x.port) → Adds (port_at i) (port_is r) b b
+port_at_adds b i o e r is = asks (port_at i) tt port_is (λ n. slice_get n.ports i) (λ s a e. (e, refl)) b r (at_place (λ (x : PortRow). x.port) (rows b.ports) i o e r is)
 
-pub nth_mapped : {R S : Type 0} (f : R → S) (xs : List R) (i : ℕ) (o : Option R) → o ≡ slice_get xs i → (r : Option S) → MatchOption o (r ≡ None) (λ x. r ≡ Some (f x))
-    → r ≡ slice_get (map f xs) i
-nth_mapped f xs i (Some x) e r is = is ∙ nth_map_some f xs i x e
-nth_mapped f xs i None e r is = is ∙ nth_map_none f xs i e
+pub link_at_adds : (b : Book) (i : ℕ) (o : Option LinkRow) → o ≡ slice_get (rows b.links) i → (r : Option VirtualLink) → MatchOption o (r ≡ None) (λ x. r ≡ Some x.link) → Adds (link_at i) (link_is r) b b
+link_at_adds b i o e r is = asks (link_at i) tt link_is (λ n. slice_get n.links i) (λ s a e. (e, refl)) b r (at_place (λ (x : LinkRow). x.link) (rows b.links) i o e r is)
+
+pub hop_at_adds : (b : Book) (i : ℕ) (o : Option HopRow) → o ≡ slice_get (rows b.hops) i → (r : Option Hop) → MatchOption o (r ≡ None) (λ x. r ≡ Some x.hop) → Adds (hop_at i) (hop_is r) b b
+hop_at_adds b i o e r is = asks (hop_at i) tt hop_is (λ n. slice_get n.hops i) (λ s a e. (e, refl)) b r (at_place (λ (x : HopRow). x.hop) (rows b.hops) i o e r is)

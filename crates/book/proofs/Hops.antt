@@ -58,9 +58,8 @@ other_place l p y n = elim (cases_Bool (eqb y.hop.link l)) [
 pub this_place : (l p : ℕ) (y : HopRow) → hop_key y ≡ (l, p) → (eqb y.hop.link l && eqb y.hop.port p) ≡ true
 this_place l p y e = and_from (eqb y.hop.link l) (eqb y.hop.port p) (eq-eqb y.hop.link l (ap (λ (x : ℕ × ℕ). x.0) e)) (eq-eqb y.hop.port p (ap (λ (x : ℕ × ℕ). x.1) e))
 
-pub has_hop_told : (l p : ℕ) (xs : List HopRow) (r : Option HopRow) → Getting hop_key xs (l, p) r
-    → is_some r ≡ some (λ (h : Hop). eqb h.link l && eqb h.port p) (map (λ (x : HopRow). x.hop) xs)
-has_hop_told l p = told_by_get (λ (x : HopRow). x.hop) hop_key (l, p) (λ (h : Hop). eqb h.link l && eqb h.port p) (this_place l p) (other_place l p)
+pub has_hop_told : (b : Book) (l p : ℕ) (r : Option HopRow) → Getting hop_key (rows b.hops) (l, p) r → is_some r ≡ has_hop (records b) l p
+has_hop_told b l p = told_by_get (λ (x : HopRow). x.hop) hop_key (l, p) (λ (h : Hop). eqb h.link l && eqb h.port p) (this_place l p) (other_place l p) (rows b.hops)
 
 -- the row under a number is the port that is found
 pub port_found : (n : ℕ) (xs : List PortRow) (row : PortRow) → ascending (by_key number_before port_key) xs ≡ true → Getting port_key xs n (Some row)

@@ -151,13 +151,13 @@ module _ (b : Book) (up : b.standing ≡ true) (p : ℕ) where
 
       pub no_hop_is_there : Getting hop_key (rows b.hops) (l, p) None → Err NoHopThere ≡ told_hop b l p
       no_hop_is_there got =
-          let unknown : has_hop (records b) l p ≡ false = sym (has_hop_told l p (rows b.hops) None got) in
+          let unknown : has_hop (records b) l p ≡ false = sym (has_hop_told b l p None got) in
           rw (up, link, known_port, unknown)
 
       pub hop_is_told : (row : HopRow) → Getting hop_key (rows b.hops) (l, p) (Some row) → (z : ℕ) → z ≡ capped (row.latest + at.backlog)
           → Ok (row.earliest, row.latest, z) ≡ told_hop b l p
       hop_is_told row got z e =
-          let there : has_hop (records b) l p ≡ true = sym (has_hop_told l p (rows b.hops) (Some row) got) in
+          let there : has_hop (records b) l p ≡ true = sym (has_hop_told b l p (Some row) got) in
           rw (up, link, known_port, there) (
           ap (λ d. Ok (row.earliest, row.latest, d)) e
           ∙ ap (λ (q : PortRow). Ok (row.earliest, row.latest, capped (row.latest + q.backlog))) (sym (port_row_is (rows b.ports) b.ports.ascends at port.0 p port.1))

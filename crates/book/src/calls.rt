@@ -47,6 +47,7 @@ impl<'a> Book<'a> {
     }
 
     // Enters a port.
+    #[tactic(auto, using(crate::proofs::Adding::port_adds))]
     pub fn enter_port(&mut self, port: Port) -> Result<(), Refusal>
         ensures outcome { Doing (entry_ground (places self.old) (records self.old) (port_entry port)) (entered (records self.old) (port_entry port)) self.old self.new result }
         ensures run { Adds (enter (port_entry port)) (answer_of result) self.old self.new }
@@ -73,6 +74,7 @@ impl<'a> Book<'a> {
     }
 
     // Enters a virtual link.
+    #[tactic(auto, using(crate::proofs::Adding::link_adds))]
     pub fn enter_link(&mut self, link: VirtualLink) -> Result<(), Refusal>
         ensures outcome { Doing (entry_ground (places self.old) (records self.old) (link_entry link)) (entered (records self.old) (link_entry link)) self.old self.new result }
         ensures run { Adds (enter (link_entry link)) (answer_of result) self.old self.new }
@@ -100,6 +102,7 @@ impl<'a> Book<'a> {
     }
 
     // Enters a hop.
+    #[tactic(auto, using(crate::proofs::Adding::hop_adds))]
     pub fn enter_hop(&mut self, hop: Hop) -> Result<(), Refusal>
         ensures outcome { Doing (entry_ground (places self.old) (records self.old) (hop_entry hop)) (entered (records self.old) (hop_entry hop)) self.old self.new result }
         ensures run { Adds (enter (hop_entry hop)) (answer_of result) self.old self.new }
@@ -142,6 +145,7 @@ impl<'a> Book<'a> {
         }
     }
 
+    #[tactic(auto, using(crate::proofs::Hops::has_link_told))]
     pub(crate) fn has_link(&self, number: u16) -> bool
         ensures { result ≡ has_link (records self.now) number }
     {
@@ -154,6 +158,7 @@ impl<'a> Book<'a> {
         self.ports.get(number).map(|row| row.port)
     }
 
+    #[tactic(auto, using(crate::proofs::Hops::has_hop_told))]
     fn has_hop(&self, link: u16, port: u8) -> bool
         ensures { result ≡ has_hop (records self.now) link port }
     {
@@ -177,6 +182,7 @@ impl<'a> Book<'a> {
     }
 
     // Removes a link with all its hops.
+    #[tactic(auto, using(crate::proofs::Adding::removal_adds))]
     pub fn remove_link(&mut self, link: u16) -> Result<(), Refusal>
         ensures outcome { Doing (removal_ground (records self.old) link) (removed (records self.old) link) self.old self.new result }
         ensures run { Adds (remove_link link) (answer_of result) self.old self.new }
@@ -198,6 +204,7 @@ impl<'a> Book<'a> {
     }
 
     // Removes all records; it never refuses.
+    #[tactic(auto, using(crate::proofs::Adding::clearing_adds))]
     pub fn clear(&mut self)
         ensures outcome { Doing None no_records self.old self.new (Ok tt) }
         ensures run { Adds clear done self.old self.new }
@@ -209,6 +216,7 @@ impl<'a> Book<'a> {
     }
 
     // How many ports there are.
+    #[tactic(auto, using(std::proofs::lemmas::Grind::common_steps, crate::proofs::Adding::port_count_adds))]
     pub fn port_count(&self) -> usize
         ensures outcome { result ≡ length (records self.now).ports }
         ensures run { Adds count_ports (count result) self.now self.now }
@@ -217,6 +225,7 @@ impl<'a> Book<'a> {
     }
 
     // How many links there are.
+    #[tactic(auto, using(std::proofs::lemmas::Grind::common_steps, crate::proofs::Adding::link_count_adds))]
     pub fn link_count(&self) -> usize
         ensures outcome { result ≡ length (records self.now).links }
         ensures run { Adds count_links (count result) self.now self.now }
@@ -225,6 +234,7 @@ impl<'a> Book<'a> {
     }
 
     // How many hops there are.
+    #[tactic(auto, using(std::proofs::lemmas::Grind::common_steps, crate::proofs::Adding::hop_count_adds))]
     pub fn hop_count(&self) -> usize
         ensures outcome { result ≡ length (records self.now).hops }
         ensures run { Adds count_hops (count result) self.now self.now }
@@ -233,6 +243,7 @@ impl<'a> Book<'a> {
     }
 
     // The port at a place, counted from 0 in ascending order; none past the last.
+    #[tactic(auto, using(crate::proofs::Adding::port_at_adds))]
     pub fn port_at(&self, place: usize) -> Option<Port>
         ensures outcome { result ≡ slice_get (records self.now).ports place }
         ensures run { Adds (port_at place) (port_is result) self.now self.now }
@@ -241,6 +252,7 @@ impl<'a> Book<'a> {
     }
 
     // The link at a place, counted from 0 in ascending order; none past the last.
+    #[tactic(auto, using(crate::proofs::Adding::link_at_adds))]
     pub fn link_at(&self, place: usize) -> Option<VirtualLink>
         ensures outcome { result ≡ slice_get (records self.now).links place }
         ensures run { Adds (link_at place) (link_is result) self.now self.now }
@@ -249,6 +261,7 @@ impl<'a> Book<'a> {
     }
 
     // The hop at a place, counted from 0 in ascending order; none past the last.
+    #[tactic(auto, using(crate::proofs::Adding::hop_at_adds))]
     pub fn hop_at(&self, place: usize) -> Option<Hop>
         ensures outcome { result ≡ slice_get (records self.now).hops place }
         ensures run { Adds (hop_at place) (hop_is result) self.now self.now }

@@ -37,6 +37,7 @@ fn backlog_at(ports: &Table<PortRow>, number: u8) -> u64
 
 impl<'a> Book<'a> {
     // The worst backlog of a port, in ns, and its queue depth, in frames.
+    #[tactic(auto, using(crate::proofs::Asking::port_adds))]
     pub fn port_figures(&self, port: u8) -> Result<(u64, u64), Refusal>
         ensures outcome { result ≡ told_port self.now port }
         ensures run { Adds (port_figures port) (port_answer result) self.now self.now }
@@ -56,6 +57,7 @@ impl<'a> Book<'a> {
     }
 
     // The earliest and the latest arrival of a frame at a hop and its latest departure, in ns after its release.
+    #[tactic(auto, using(crate::proofs::Asking::hop_adds))]
     pub fn hop_figures(&self, link: u16, port: u8) -> Result<(u64, u64, u64), Refusal>
         ensures outcome { result ≡ told_hop self.now link port }
         ensures run { Adds (hop_figures link port) (hop_answer result) self.now self.now }
@@ -78,6 +80,7 @@ impl<'a> Book<'a> {
     }
 
     // The largest departure of a link's hops, in ns after the release of a frame.
+    #[tactic(auto, using(crate::proofs::Asking::delay_adds))]
     pub fn delay(&self, link: u16) -> Result<u64, Refusal>
         ensures outcome { result ≡ told_delay self.now link }
         ensures run { Adds (delay_of link) (delay_answer result) self.now self.now }
