@@ -10,7 +10,7 @@ use Rattle.definitions.specs.declared.network.Hop.{Hop}
 use Rattle.definitions.specs.declared.refusals.Refusal.{Refusal}
 use Rattle.definitions.specs.declared.refusals.Refusal.TheVariants.{LinkUnknown}
 use Rattle.definitions.specs.Lists.{In, every, some, ascending}
-use Rattle.definitions.specs.Entries.{begins, has_link, removal_ground, removed}
+use Rattle.definitions.specs.Entries.{begins, has_link, has_first_hop, removal_ground, removed}
 use Rattle.register.specs.Tables.{rows, room, by_key, TableBy, Found, Starts, Removing}
 use Rattle.register.proofs.Sorted.{without_ascends}
 use Rattle.working_out.specs.declared.rows.LinkRow.{LinkRow}
@@ -172,6 +172,11 @@ module _ (rs : List HopRow) (l from to : ℕ) (up : ascending (by_key place_befo
         some_same hop_of t row_begins mid (All-weaker (λ (r : HopRow). r.hop.link ≡ l) (λ (r : HopRow). t (hop_of r) ≡ row_begins r) alike mid mid_alike),
       )
       (or_none (some row_begins mid))
+
+-- whether a link has a first hop, told by its run
+pub first_hop_told : (b : Book) (l from to : ℕ) → Starts place_before hop_key (rows b.hops) (l, 0) from → RunEnd (rows b.hops) l from to
+    → has_first_hop (records b) l ≡ some (λ (x : HopRow). begins x.hop) (take (to - from) (drop from (rows b.hops)))
+first_hop_told b l from to st re = first_in_run (rows b.hops) l from to b.hops.ascends st re
 
 -- ## Removing
 

@@ -10,7 +10,7 @@ use Rattle.definitions.specs.declared.network.Port.{Port}
 use Rattle.definitions.specs.declared.network.Hop.{Hop}
 use Rattle.definitions.specs.declared.refusals.Refusal.{Refusal}
 use Rattle.definitions.specs.declared.refusals.Refusal.TheVariants.{PortUnknown, NoHopThere, NoHops}
-use Rattle.definitions.specs.Lists.{In, largest, ascending}
+use Rattle.definitions.specs.Lists.{In, largest, every, ascending}
 use Rattle.definitions.specs.Entries.{first_met, has_port, has_link, has_hop}
 use Rattle.definitions.specs.Figures.{Figures, departure, delay, depth, hops_of, earliest_at, latest_at}
 use Rattle.definitions.specs.Promises.{Agree}
@@ -103,18 +103,12 @@ module _ (b : Book) (F : Figures) (s : Shows b F) where
 -- ## What is told
 
 -- the backlog under a number
-backlog_got : (xs : List PortRow) (n : ℕ) → ascending (by_key number_before port_key) xs ≡ true → (x : PortRow) → Getting port_key xs n (Some x)
-    → x.backlog ≡ (port_row xs n).backlog
-backlog_got xs n up x (i, e) = ap (λ (r : PortRow). r.backlog) (sym (port_row_is xs up x i n e))
-
-no_backlog : (xs : List PortRow) (n : ℕ) → Getting port_key xs n None → 0 ≡ (port_row xs n).backlog
-no_backlog [] n none = refl
-no_backlog (x ∷ xs) n none = rw (ne_eqb x.port.number n (none x (inl refl))) (no_backlog xs n (λ y i. none y (inr i)))
-
 pub backlog_told : (xs : List PortRow) (n : ℕ) → ascending (by_key number_before port_key) xs ≡ true → (o : Option PortRow) → Getting port_key xs n o
     → (b : ℕ) → MatchOption o (b ≡ 0) (λ row. b ≡ row.backlog) → b ≡ (port_row xs n).backlog
-backlog_told xs n up (Some x) got b is = is ∙ backlog_got xs n up x got
-backlog_told xs n up None got b is = is ∙ no_backlog xs n got
+backlog_told xs n up (Some x) got b is = is ∙ ap (λ (r : PortRow). r.backlog) (sym (port_row_is xs up x got.0 n got.1))
+backlog_told [] n up None got b is = is
+backlog_told (y ∷ ys) n up None got b is =
+    rw (ne_eqb y.port.number n (got y (inl refl))) (backlog_told ys n (and_parts (every (by_key number_before port_key y) ys) (ascending (by_key number_before port_key) ys) up).1 None (λ z i. got z (inr i)) b is)
 
 -- a question about a link that meets neither of the first grounds
 pub link_is_known : (b : Book) (l : ℕ) → None ≡ link_ground b l → (b.standing ≡ true) × (has_link (records b) l ≡ true)

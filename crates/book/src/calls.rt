@@ -165,6 +165,7 @@ impl<'a> Book<'a> {
         self.hops.get((link, port)).is_some()
     }
 
+    #[tactic(auto, using(crate::proofs::LinkHops::first_hop_told))]
     fn has_first_hop(&self, link: u16) -> bool
         ensures { result ≡ has_first_hop (records self.now) link }
     {
