@@ -8,7 +8,7 @@ use Rattle.definitions.specs.declared.refusals.Refusal.{Refusal}
 use Rattle.definitions.specs.declared.refusals.Refusal.TheVariants.{HopTableFull}
 use Rattle.definitions.specs.Lists.{some, ascending}
 use Rattle.definitions.specs.Network.{find_port, hop_before, most_hops}
-use Rattle.definitions.specs.Entries.{hop_entry, entry_ground, entered, first_met, hop_grounds, has_port, has_hop, full}
+use Rattle.definitions.specs.Entries.{hop_entry, entry_ground, entered, first_met, hop_grounds, has_port, has_link, has_hop, full}
 use Rattle.register.specs.declared.tables.NotInserted.TheVariants.{Present, Full}
 use Rattle.register.specs.Tables.{rows, room, by_key, Getting, Inserting}
 use Rattle.theory.proofs.Members.{in_map}
@@ -35,15 +35,13 @@ pub told_by_get : {R S K : Type 0} (f : R → S) (key : R → K) (k : K) (test :
 told_by_get f key k test yes-test no_test xs (Some x) (i, e) = sym (some_under f key k test yes-test xs x i e)
 told_by_get f key k test yes-test no_test xs None n = sym (none_under f key k test no_test xs n)
 
-pub has_link_told : (l : ℕ) (xs : List LinkRow) (r : Option LinkRow) → Getting link_key xs l r
-    → is_some r ≡ some (λ (m : VirtualLink). eqb m.number l) (map (λ (x : LinkRow). x.link) xs)
-has_link_told l = told_by_get (λ (x : LinkRow). x.link) link_key l (λ (m : VirtualLink). eqb m.number l)
-    (λ y e. eq-eqb y.link.number l e) (λ y n. ne_eqb y.link.number l n)
+pub has_link_told : (b : Book) (l : ℕ) (r : Option LinkRow) → Getting link_key (rows b.links) l r → is_some r ≡ has_link (records b) l
+has_link_told b l = told_by_get (λ (x : LinkRow). x.link) link_key l (λ (m : VirtualLink). eqb m.number l)
+    (λ y e. eq-eqb y.link.number l e) (λ y n. ne_eqb y.link.number l n) (rows b.links)
 
-pub has_port_told : (n : ℕ) (xs : List PortRow) (r : Option PortRow) → Getting port_key xs n r
-    → is_some r ≡ some (λ (p : Port). eqb p.number n) (map (λ (x : PortRow). x.port) xs)
-has_port_told n = told_by_get (λ (x : PortRow). x.port) port_key n (λ (p : Port). eqb p.number n)
-    (λ y e. eq-eqb y.port.number n e) (λ y m. ne_eqb y.port.number n m)
+pub has_port_told : (b : Book) (n : ℕ) (r : Option PortRow) → Getting port_key (rows b.ports) n r → is_some r ≡ has_port (records b) n
+has_port_told b n = told_by_get (λ (x : PortRow). x.port) port_key n (λ (p : Port). eqb p.number n)
+    (λ y e. eq-eqb y.port.number n e) (λ y m. ne_eqb y.port.number n m) (rows b.ports)
 
 -- a key of another place
 pub other_place : (l p : ℕ) (y : HopRow) → ¬ (hop_key y ≡ (l, p)) → (eqb y.hop.link l && eqb y.hop.port p) ≡ false
@@ -71,9 +69,9 @@ port_found n xs row up (i, e) =
 pub found_port : (b : Book) (n : ℕ) (o : Option PortRow) → Getting port_key (rows b.ports) n o → (r : Option Port) → MatchOption o (r ≡ None) (λ row. r ≡ Some row.port)
     → MatchOption r (has_port (records b) n ≡ false) (λ p. (has_port (records b) n ≡ true) × (find_port (records b).ports n ≡ p))
 found_port b n (Some row) got r is = subst (λ (z : Option Port). MatchOption z (has_port (records b) n ≡ false) (λ p. (has_port (records b) n ≡ true) × (find_port (records b).ports n ≡ p))) (sym is)
-    (sym (has_port_told n (rows b.ports) (Some row) got), port_found n (rows b.ports) row b.ports.ascends got)
+    (sym (has_port_told b n (Some row) got), port_found n (rows b.ports) row b.ports.ascends got)
 found_port b n None got r is = subst (λ (z : Option Port). MatchOption z (has_port (records b) n ≡ false) (λ p. (has_port (records b) n ≡ true) × (find_port (records b).ports n ≡ p))) (sym is)
-    (sym (has_port_told n (rows b.ports) None got))
+    (sym (has_port_told b n None got))
 
 -- ## Grounds and answers
 

@@ -36,18 +36,6 @@ module _ (rs : List HopRow) (l from : ℕ) (le : from ≤ length rs) where
     stops = λ lt. absurd (omega arith);
   }
 
--- a run has rows exactly where its end is not its start
-module _ (rs xs : List HopRow) (l from to : ℕ) (same : xs ≡ rs) (re : RunEnd rs l from to) where
-  pub run_empty : eqb (length (take (to - from) (drop from xs))) 0 ≡ true → from ≡ to
-  run_empty e =
-      let none = eqb-true (length (take (to - from) (drop from xs))) 0 e in
-      omega (arith, none, length-take (to - from) (drop from xs), length-drop from xs, ap length same, re.in_order, re.within)
-
-  pub run_some : eqb (length (take (to - from) (drop from xs))) 0 ≡ false → ¬ (from ≡ to)
-  run_some e stop =
-      let some = eqb-false (length (take (to - from) (drop from xs))) 0 e in
-      some (omega (arith, stop, length-take (to - from) (drop from xs)))
-
 -- a hop after none begins its link
 pub begins_is : (h : Hop) (b : Bool) → b ≡ is_none h.after → b ≡ begins h
 begins_is h b = elim h.after as (λ o. b ≡ is_none o → b ≡ elim o as (λ _. Bool) [ None ↦ true | Some q ↦ false ]) [

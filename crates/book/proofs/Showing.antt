@@ -1,5 +1,5 @@
 -- What the rows of a book show, and what it tells from them.
-use Rattle.std.proofs.Common.{◌≡◌, ℕ, ◌+◌, ◌-◌, ◌^◌, ◌<◌, Bool, true, false, ◌&&◌, eqb, List, [], ◌∷◌, map, length, take, drop, Some, None, Ok, Err, Option, MatchOption, unwrap_or, sym, refl, ap, ◌∙◌, inl, inr, arith, length-drop, length-take}
+use Rattle.std.proofs.Common.{◌≡◌, ℕ, ◌+◌, ◌-◌, ◌^◌, ◌<◌, Bool, true, false, ◌&&◌, eqb, List, [], ◌∷◌, map, length, take, drop, Some, None, Ok, Err, Option, MatchOption, unwrap_or, sym, refl, ap, ◌∙◌, subst, inl, inr, arith, length-drop, length-take}
 use lib.ListN.{length-map}
 use Rattle.std.specs.Option.{SomeIff}
 use Rattle.std.specs.List.{AllByRecursion}
@@ -116,47 +116,34 @@ link_is_known b l e =
     let none = none_met (take 2 (delay_question b l)) (sym e) in
     (not-false b.standing none.0, not-false (has_link (records b) l) none.1.0)
 
--- one of the first grounds is told
-pub refused_first : {X : Type 0} (n : ℕ) (gs : List (Bool × Refusal)) (e : Refusal) (x : X) → Some e ≡ first_met (take n gs) → Err e ≡ told (first_met gs) x
-refused_first n gs e x met = ap (λ o. told o x) (sym (met_first n gs e (sym met)))
-
-module _ (b : Book) (up : b.standing ≡ true) (p : ℕ) where
+module _ (b : Book) (up : b.standing ≡ true) (p : ℕ) (o : Option PortRow) (got : Getting port_key (rows b.ports) p o) where
   -- of a port
-  pub port_is_told : (row : PortRow) → Getting port_key (rows b.ports) p (Some row) → Ok (row.backlog, row.depth) ≡ told_port b p
-  port_is_told row got =
-      let known : has_port (records b) p ≡ true = sym (has_port_told p (rows b.ports) (Some row) got) in
-      rw (up, known, port_row_is (rows b.ports) b.ports.ascends row got.0 p got.1)
+  pub port_is_told : (row : PortRow) → o ≡ Some row → told_port b p ≡ Ok (row.backlog, row.depth)
+  port_is_told row e =
+      let at : Getting port_key (rows b.ports) p (Some row) = subst (Getting port_key (rows b.ports) p) e got in
+      rw (up, sym (has_port_told b p o got), e, port_row_is (rows b.ports) b.ports.ascends row at.0 p at.1)
 
-  pub port_is_unknown : Getting port_key (rows b.ports) p None → Err PortUnknown ≡ told_port b p
-  port_is_unknown got =
-      let unknown : has_port (records b) p ≡ false = sym (has_port_told p (rows b.ports) None got) in
-      rw (up, unknown)
+  pub port_is_unknown : o ≡ None → told_port b p ≡ Err PortUnknown
+  port_is_unknown e = rw (up, sym (has_port_told b p o got), e)
 
   module _ (l : ℕ) (link : has_link (records b) l ≡ true) where
     -- of a hop
-    pub hop_without_port : Getting port_key (rows b.ports) p None → Err PortUnknown ≡ told_hop b l p
-    hop_without_port got =
-        let unknown : has_port (records b) p ≡ false = sym (has_port_told p (rows b.ports) None got) in
-        rw (up, link, unknown)
+    pub hop_without_port : o ≡ None → told_hop b l p ≡ Err PortUnknown
+    hop_without_port e = rw (up, link, sym (has_port_told b p o got), e)
 
-    module _ (at : PortRow) (port : Getting port_key (rows b.ports) p (Some at)) where
-      known_port : has_port (records b) p ≡ true
-      known_port = sym (has_port_told p (rows b.ports) (Some at) port)
+    pub no_hop_is_there : (at : PortRow) → o ≡ Some at → (q : Option HopRow) → Getting hop_key (rows b.hops) (l, p) q → q ≡ None → told_hop b l p ≡ Err NoHopThere
+    no_hop_is_there at e q there f = rw (up, link, sym (has_port_told b p o got), e, sym (has_hop_told b l p q there), f)
 
-      pub no_hop_is_there : Getting hop_key (rows b.hops) (l, p) None → Err NoHopThere ≡ told_hop b l p
-      no_hop_is_there got =
-          let unknown : has_hop (records b) l p ≡ false = sym (has_hop_told b l p None got) in
-          rw (up, link, known_port, unknown)
-
-      pub hop_is_told : (row : HopRow) → Getting hop_key (rows b.hops) (l, p) (Some row) → (z : ℕ) → z ≡ capped (row.latest + at.backlog)
-          → Ok (row.earliest, row.latest, z) ≡ told_hop b l p
-      hop_is_told row got z e =
-          let there : has_hop (records b) l p ≡ true = sym (has_hop_told b l p (Some row) got) in
-          rw (up, link, known_port, there) (
-          ap (λ d. Ok (row.earliest, row.latest, d)) e
-          ∙ ap (λ (q : PortRow). Ok (row.earliest, row.latest, capped (row.latest + q.backlog))) (sym (port_row_is (rows b.ports) b.ports.ascends at port.0 p port.1))
-          ∙ ap (λ (r : HopRow). Ok (r.earliest, r.latest, capped (r.latest + (shown b).backlog p))) (sym (hop_row_is (rows b.hops) b.hops.ascends row got.0 l p got.1))
-          )
+pub hop_is_told : (b : Book) → b.standing ≡ true → (l : ℕ) → has_link (records b) l ≡ true → (p : ℕ) (at : PortRow) → Getting port_key (rows b.ports) p (Some at)
+    → (row : HopRow) → Getting hop_key (rows b.hops) (l, p) (Some row) → (z : ℕ) → z ≡ capped (row.latest + at.backlog) → Ok (row.earliest, row.latest, z) ≡ told_hop b l p
+hop_is_told b up l link p at port row hop z is =
+    let known : has_port (records b) p ≡ true = sym (has_port_told b p (Some at) port) in
+    let there : has_hop (records b) l p ≡ true = sym (has_hop_told b l p (Some row) hop) in
+    rw (up, link, known, there) (
+    ap (λ d. Ok (row.earliest, row.latest, d)) is
+    ∙ ap (λ (r : PortRow). Ok (row.earliest, row.latest, capped (row.latest + r.backlog))) (sym (port_row_is (rows b.ports) b.ports.ascends at port.0 p port.1))
+    ∙ ap (λ (r : HopRow). Ok (r.earliest, r.latest, capped (r.latest + (shown b).backlog p))) (sym (hop_row_is (rows b.hops) b.hops.ascends row hop.0 l p hop.1))
+    )
 
 -- ## The delay of a link
 
@@ -183,10 +170,8 @@ module _ (b : Book) (up : b.standing ≡ true) (l : ℕ) (link : has_link (recor
   hops_are : hops_of (records b) l ≡ map (λ (r : HopRow). r.hop) run
   hops_are = hops_in_run (rows b.hops) l from to b.hops.ascends st re
 
-  how_many : length (hops_of (records b) l) ≡ to - from
-  how_many =
-      ap length hops_are ∙ length-map run (λ (r : HopRow). r.hop)
-      ∙ omega (arith, length-take (to - from) (drop from (rows b.hops)), length-drop from (rows b.hops), re.in_order, re.within)
+  how_many : length (hops_of (records b) l) ≡ length run
+  how_many = ap length hops_are ∙ length-map run (λ (r : HopRow). r.hop)
 
   -- the rows of the run show the departures of the link's hops
   delay_is_shown : delay (records b) (shown b) l ≡ largest (row_departure (rows b.ports)) run
@@ -197,13 +182,16 @@ module _ (b : Book) (up : b.standing ≡ true) (l : ℕ) (link : has_link (recor
       ∙ largest_over (departure (shown b)) (λ (r : HopRow). r.hop) (row_departure (rows b.ports)) run
       (All-take _ (to - from) (drop from (rows b.hops)) (All-drop _ from (rows b.hops) (all_in _ (rows b.hops) here)))
 
-  pub no_hops : from ≡ to → Err NoHops ≡ told_delay b l
-  no_hops e =
-      let none : eqb (length (hops_of (records b) l)) 0 ≡ true = eq-eqb (length (hops_of (records b) l)) 0 (omega (arith, how_many)) in
-      rw (up, link, none)
+  module _ (xs : List HopRow) (same : xs ≡ rows b.hops) where
+    pub no_hops : eqb (length (take (to - from) (drop from xs))) 0 ≡ true → told_delay b l ≡ Err NoHops
+    no_hops e =
+        let none : eqb (length run) 0 ≡ true = rw same at e in
+        rw (up, link, how_many, none)
 
-  pub delay_is_told : ¬ (from ≡ to) → (o : Option ℕ) → Told (largest (row_departure (rows b.ports)) run) o
-      → (d : ℕ) → d ≡ unwrap_or o (2 ^ 64 - 1) → d < 2 ^ 64 → Ok d ≡ told_delay b l
-  delay_is_told n o t d e fits =
-      let more : eqb (length (hops_of (records b) l)) 0 ≡ false = ne_eqb (length (hops_of (records b) l)) 0 (λ q. n (omega (arith, how_many, re.in_order))) in
-      rw (up, link, more) (ap Ok (e ∙ capped_told _ o t (omega arith) ∙ ap capped (sym delay_is_shown)))
+    pub delay_is_told : eqb (length (take (to - from) (drop from xs))) 0 ≡ false
+        → (o : Option ℕ) → Told (largest (row_departure (rows b.ports)) (take (to - from) (drop from xs))) o
+        → (d : ℕ) → d ≡ unwrap_or o (2 ^ 64 - 1) → d < 2 ^ 64 → told_delay b l ≡ Ok d
+    delay_is_told e o t d is fits =
+        let more : eqb (length run) 0 ≡ false = rw same at e in
+        let told : Told (largest (row_departure (rows b.ports)) run) o = rw same at t in
+        rw (up, link, how_many, more) (ap Ok (ap capped delay_is_shown ∙ sym (is ∙ capped_told _ o told (omega arith))))

@@ -46,6 +46,7 @@ impl<'a> Book<'a> {
         self.tell_port(port)
     }
 
+    #[tactic(auto, using(crate::proofs::Showing::port_is_told, crate::proofs::Showing::port_is_unknown))]
     fn tell_port(&self, port: u8) -> Result<(u64, u64), Refusal>
         ensures { result ≡ told_port self.now port }
     {
@@ -66,6 +67,7 @@ impl<'a> Book<'a> {
         self.tell_hop(link, port)
     }
 
+    #[tactic(auto, using(crate::proofs::Hops::fit_of, crate::proofs::Showing::link_is_known, crate::proofs::Showing::hop_without_port, crate::proofs::Showing::no_hop_is_there, crate::proofs::Showing::hop_is_told))]
     fn tell_hop(&self, link: u16, port: u8) -> Result<(u64, u64, u64), Refusal>
         ensures { result ≡ told_hop self.now link port }
     {
@@ -89,6 +91,7 @@ impl<'a> Book<'a> {
         self.tell_delay(link)
     }
 
+    #[tactic(auto, using(crate::proofs::Hops::fit_of, crate::proofs::Showing::link_is_known, crate::proofs::Showing::no_hops))]
     fn tell_delay(&self, link: u16) -> Result<u64, Refusal>
         ensures { result ≡ told_delay self.now link }
     {
