@@ -16,6 +16,7 @@ use Rattle.working_out.specs.declared.rows.PortRow.{PortRow}
 use Rattle.working_out.specs.declared.rows.LinkRow.{LinkRow}
 use Rattle.working_out.specs.declared.rows.HopRow.{HopRow}
 use Rattle.book.specs.declared.books.Book.{Book}
+use Rattle.working_out.specs.Rows.{bare_port}
 use Rattle.working_out.specs.Keys.{number_before, port_key, link_key, Ports, Links, Hops}
 use Rattle.book.specs.Books.{records, places, Same, Doing}
 use Rattle.book.proofs.Adding.{same_records}
@@ -79,78 +80,78 @@ ports_of t = map (λ (r : PortRow). r.port) (rows t)
 
 -- ## Ports
 
-module _ (b d : Book) (row : PortRow) (known : rate_known row.port ≡ true) (links : d.links ≡ b.links) (hops : d.hops ≡ b.hops) where
-  absent_port : ((y : PortRow) → In y (rows b.ports) → ¬ (port_key y ≡ port_key row)) → has_port (records b) row.port.number ≡ false
-  absent_port = none_under (λ (r : PortRow). r.port) port_key row.port.number (λ (p : Port). eqb p.number row.port.number)
-      (λ y n. ne_eqb y.port.number row.port.number n) (rows b.ports)
+module _ (b d : Book) (p : Port) (known : rate_known p ≡ true) (links : d.links ≡ b.links) (hops : d.hops ≡ b.hops) where
+  absent_port : ((y : PortRow) → In y (rows b.ports) → ¬ (port_key y ≡ p.number)) → has_port (records b) p.number ≡ false
+  absent_port = none_under (λ (r : PortRow). r.port) port_key p.number (λ (q : Port). eqb q.number p.number)
+      (λ y n. ne_eqb y.port.number p.number n) (rows b.ports)
 
-  pub port_added : room d.ports ≡ room b.ports → Inserting number_before port_key most_ports row b.ports d.ports (Ok tt) → d.standing ≡ false
-      → Doing (entry_ground (places b) (records b) (port_entry row.port)) (entered (records b) (port_entry row.port)) b d (Ok tt)
+  pub port_added : room d.ports ≡ room b.ports → Inserting number_before port_key most_ports (bare_port p) b.ports d.ports (Ok tt) → d.standing ≡ false
+      → Doing (entry_ground (places b) (records b) (port_entry p)) (entered (records b) (port_entry p)) b d (Ok tt)
   port_added same (less, fresh, new) down =
-      let ground : entry_ground (places b) (records b) (port_entry row.port) ≡ None
+      let ground : entry_ground (places b) (records b) (port_entry p) ≡ None
       = rw (known, absent_port fresh, not_full_told (λ (r : PortRow). r.port) (rows b.ports) (room b.ports) most_ports less) in
-      subst (λ (o : Option Refusal). Doing o (entered (records b) (port_entry row.port)) b d (Ok tt)) (sym ground) (
+      subst (λ (o : Option Refusal). Doing o (entered (records b) (port_entry p)) b d (Ok tt)) (sym ground) (
         refl,
-        same_records _ _ _ _ _ _ (ap (map (λ (r : PortRow). r.port)) new ∙ map_placed (λ (r : PortRow). r.port) number_before port_key port_before (λ x y. refl) row (rows b.ports))
+        same_records _ _ _ _ _ _ (ap (map (λ (r : PortRow). r.port)) new ∙ map_placed (λ (r : PortRow). r.port) number_before port_key port_before (λ x y. refl) (bare_port p) (rows b.ports))
             (ap links_of links) (ap hops_of hops),
         down,
         same_places _ _ _ _ _ _ same (ap (λ (t : Links). room t) links) (ap (λ (t : Hops). room t) hops),
       )
 
-  pub port_present : Inserting number_before port_key most_ports row b.ports d.ports (Err Present) → d.standing ≡ b.standing
-      → Doing (entry_ground (places b) (records b) (port_entry row.port)) (entered (records b) (port_entry row.port)) b d (Err PortPresent)
+  pub port_present : Inserting number_before port_key most_ports (bare_port p) b.ports d.ports (Err Present) → d.standing ≡ b.standing
+      → Doing (entry_ground (places b) (records b) (port_entry p)) (entered (records b) (port_entry p)) b d (Err PortPresent)
   port_present (same, (y, i, e)) stays =
-      let there : has_port (records b) row.port.number ≡ true
-      = some_under (λ (r : PortRow). r.port) port_key row.port.number (λ (p : Port). eqb p.number row.port.number)
-      (λ z q. eq-eqb z.port.number row.port.number q) (rows b.ports) y i e in
-      let ground : entry_ground (places b) (records b) (port_entry row.port) ≡ Some PortPresent = rw (known, there) in
-      subst (λ (o : Option Refusal). Doing o (entered (records b) (port_entry row.port)) b d (Err PortPresent)) (sym ground)
+      let there : has_port (records b) p.number ≡ true
+      = some_under (λ (r : PortRow). r.port) port_key p.number (λ (q : Port). eqb q.number p.number)
+      (λ z q. eq-eqb z.port.number p.number q) (rows b.ports) y i e in
+      let ground : entry_ground (places b) (records b) (port_entry p) ≡ Some PortPresent = rw (known, there) in
+      subst (λ (o : Option Refusal). Doing o (entered (records b) (port_entry p)) b d (Err PortPresent)) (sym ground)
       (refl, unchanged b d same links hops stays)
 
-  pub port_full : Inserting number_before port_key most_ports row b.ports d.ports (Err Full) → d.standing ≡ b.standing
-      → Doing (entry_ground (places b) (records b) (port_entry row.port)) (entered (records b) (port_entry row.port)) b d (Err PortTableFull)
+  pub port_full : Inserting number_before port_key most_ports (bare_port p) b.ports d.ports (Err Full) → d.standing ≡ b.standing
+      → Doing (entry_ground (places b) (records b) (port_entry p)) (entered (records b) (port_entry p)) b d (Err PortTableFull)
   port_full (same, none_left, fresh) stays =
-      let ground : entry_ground (places b) (records b) (port_entry row.port) ≡ Some PortTableFull
+      let ground : entry_ground (places b) (records b) (port_entry p) ≡ Some PortTableFull
       = rw (known, absent_port fresh, full_told (λ (r : PortRow). r.port) (rows b.ports) (room b.ports) most_ports none_left) in
-      subst (λ (o : Option Refusal). Doing o (entered (records b) (port_entry row.port)) b d (Err PortTableFull)) (sym ground)
+      subst (λ (o : Option Refusal). Doing o (entered (records b) (port_entry p)) b d (Err PortTableFull)) (sym ground)
       (refl, unchanged b d same links hops stays)
 
 -- ## Links
 
-module _ (b d : Book) (row : LinkRow) (known : gap_known row.link ≡ true) (lengths : lengths_kept row.link ≡ true)
+module _ (b d : Book) (l : VirtualLink) (known : gap_known l ≡ true) (lengths : lengths_kept l ≡ true)
     (ports : d.ports ≡ b.ports) (hops : d.hops ≡ b.hops) where
-  absent_link : ((y : LinkRow) → In y (rows b.links) → ¬ (link_key y ≡ link_key row)) → has_link (records b) row.link.number ≡ false
-  absent_link = none_under (λ (r : LinkRow). r.link) link_key row.link.number (λ (l : VirtualLink). eqb l.number row.link.number)
-      (λ y n. ne_eqb y.link.number row.link.number n) (rows b.links)
+  absent_link : ((y : LinkRow) → In y (rows b.links) → ¬ (link_key y ≡ l.number)) → has_link (records b) l.number ≡ false
+  absent_link = none_under (λ (r : LinkRow). r.link) link_key l.number (λ (m : VirtualLink). eqb m.number l.number)
+      (λ y n. ne_eqb y.link.number l.number n) (rows b.links)
 
-  pub link_added : room d.links ≡ room b.links → Inserting number_before link_key most_links row b.links d.links (Ok tt) → d.standing ≡ false
-      → Doing (entry_ground (places b) (records b) (link_entry row.link)) (entered (records b) (link_entry row.link)) b d (Ok tt)
+  pub link_added : room d.links ≡ room b.links → Inserting number_before link_key most_links record { link = l } b.links d.links (Ok tt) → d.standing ≡ false
+      → Doing (entry_ground (places b) (records b) (link_entry l)) (entered (records b) (link_entry l)) b d (Ok tt)
   link_added same (less, fresh, new) down =
-      let ground : entry_ground (places b) (records b) (link_entry row.link) ≡ None
+      let ground : entry_ground (places b) (records b) (link_entry l) ≡ None
       = rw (known, lengths, absent_link fresh, not_full_told (λ (r : LinkRow). r.link) (rows b.links) (room b.links) most_links less) in
-      subst (λ (o : Option Refusal). Doing o (entered (records b) (link_entry row.link)) b d (Ok tt)) (sym ground) (
+      subst (λ (o : Option Refusal). Doing o (entered (records b) (link_entry l)) b d (Ok tt)) (sym ground) (
         refl,
         same_records _ _ _ _ _ _ (ap ports_of ports)
-            (ap (map (λ (r : LinkRow). r.link)) new ∙ map_placed (λ (r : LinkRow). r.link) number_before link_key link_before (λ x y. refl) row (rows b.links))
+            (ap (map (λ (r : LinkRow). r.link)) new ∙ map_placed (λ (r : LinkRow). r.link) number_before link_key link_before (λ x y. refl) record { link = l } (rows b.links))
             (ap hops_of hops),
         down,
         same_places _ _ _ _ _ _ (ap (λ (t : Ports). room t) ports) same (ap (λ (t : Hops). room t) hops),
       )
 
-  pub link_present : Inserting number_before link_key most_links row b.links d.links (Err Present) → d.standing ≡ b.standing
-      → Doing (entry_ground (places b) (records b) (link_entry row.link)) (entered (records b) (link_entry row.link)) b d (Err LinkPresent)
+  pub link_present : Inserting number_before link_key most_links record { link = l } b.links d.links (Err Present) → d.standing ≡ b.standing
+      → Doing (entry_ground (places b) (records b) (link_entry l)) (entered (records b) (link_entry l)) b d (Err LinkPresent)
   link_present (same, (y, i, e)) stays =
-      let there : has_link (records b) row.link.number ≡ true
-      = some_under (λ (r : LinkRow). r.link) link_key row.link.number (λ (l : VirtualLink). eqb l.number row.link.number)
-      (λ z q. eq-eqb z.link.number row.link.number q) (rows b.links) y i e in
-      let ground : entry_ground (places b) (records b) (link_entry row.link) ≡ Some LinkPresent = rw (known, lengths, there) in
-      subst (λ (o : Option Refusal). Doing o (entered (records b) (link_entry row.link)) b d (Err LinkPresent)) (sym ground)
+      let there : has_link (records b) l.number ≡ true
+      = some_under (λ (r : LinkRow). r.link) link_key l.number (λ (m : VirtualLink). eqb m.number l.number)
+      (λ z q. eq-eqb z.link.number l.number q) (rows b.links) y i e in
+      let ground : entry_ground (places b) (records b) (link_entry l) ≡ Some LinkPresent = rw (known, lengths, there) in
+      subst (λ (o : Option Refusal). Doing o (entered (records b) (link_entry l)) b d (Err LinkPresent)) (sym ground)
       (refl, unchanged b d ports same hops stays)
 
-  pub link_full : Inserting number_before link_key most_links row b.links d.links (Err Full) → d.standing ≡ b.standing
-      → Doing (entry_ground (places b) (records b) (link_entry row.link)) (entered (records b) (link_entry row.link)) b d (Err LinkTableFull)
+  pub link_full : Inserting number_before link_key most_links record { link = l } b.links d.links (Err Full) → d.standing ≡ b.standing
+      → Doing (entry_ground (places b) (records b) (link_entry l)) (entered (records b) (link_entry l)) b d (Err LinkTableFull)
   link_full (same, none_left, fresh) stays =
-      let ground : entry_ground (places b) (records b) (link_entry row.link) ≡ Some LinkTableFull
+      let ground : entry_ground (places b) (records b) (link_entry l) ≡ Some LinkTableFull
       = rw (known, lengths, absent_link fresh, full_told (λ (r : LinkRow). r.link) (rows b.links) (room b.links) most_links none_left) in
-      subst (λ (o : Option Refusal). Doing o (entered (records b) (link_entry row.link)) b d (Err LinkTableFull)) (sym ground)
+      subst (λ (o : Option Refusal). Doing o (entered (records b) (link_entry l)) b d (Err LinkTableFull)) (sym ground)
       (refl, unchanged b d ports same hops stays)

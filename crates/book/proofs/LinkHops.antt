@@ -9,14 +9,15 @@ use Rattle.definitions.specs.declared.network.VirtualLink.{VirtualLink}
 use Rattle.definitions.specs.declared.network.Hop.{Hop}
 use Rattle.definitions.specs.declared.refusals.Refusal.{Refusal}
 use Rattle.definitions.specs.declared.refusals.Refusal.TheVariants.{LinkUnknown}
-use Rattle.definitions.specs.Lists.{In, every, some, ascending}
+use Rattle.definitions.specs.Lists.{every, some, ascending}
 use Rattle.definitions.specs.Entries.{begins, has_link, has_first_hop, removal_ground, removed}
 use Rattle.register.specs.Tables.{rows, room, by_key, TableBy, Found, Starts, Removing}
-use Rattle.register.proofs.Sorted.{without_ascends}
+use Rattle.register.proofs.Sorted.{without_ascends, none_under as absent_under}
 use Rattle.working_out.specs.declared.rows.LinkRow.{LinkRow}
 use Rattle.working_out.specs.declared.rows.HopRow.{HopRow}
 use Rattle.book.specs.declared.books.Book.{Book}
 use Rattle.working_out.specs.Keys.{number_before, place_before, link_key, hop_key, Ports}
+use Rattle.working_out.proofs.Under.{numbers_one}
 use Rattle.book.specs.Books.{records, Doing}
 use Rattle.book.proofs.Adding.{same_records}
 use Rattle.book.proofs.Entering.{none_under, same_places, unchanged, ports_of}
@@ -239,9 +240,10 @@ link_taken b d l place from to x y found st re links hops ports down =
     link_known (z ∷ zs) (suc i) lt e = or_right (eqb z.link.number l) _ (link_known zs i (omega arith) e)
 
 -- an unknown link leaves the book as it was
-pub link_unknown : (b : Book) (l : ℕ) → ((y : LinkRow) → In y (rows b.links) → ¬ (link_key y ≡ l))
+pub link_unknown : (b : Book) (l i : ℕ) → Found number_before link_key (rows b.links) l (Err i)
     → Doing (removal_ground (records b) l) (removed (records b) l) b b (Err LinkUnknown)
-link_unknown b l absent =
+link_unknown b l i found =
+    let absent = absent_under number_before numbers_one link_key l (rows b.links) i found.1 found.2 in
     let unknown : has_link (records b) l ≡ false
     = none_under (λ (r : LinkRow). r.link) link_key l (λ (m : VirtualLink). eqb m.number l) (λ z n. ne_eqb z.link.number l n) (rows b.links) absent in
     let ground : removal_ground (records b) l ≡ Some LinkUnknown = rw unknown in

@@ -1,5 +1,5 @@
 -- What the rows of a book show, and what it tells from them.
-use Rattle.std.proofs.Common.{◌≡◌, ℕ, ◌+◌, ◌-◌, ◌^◌, ◌<◌, Bool, true, false, ◌&&◌, eqb, List, [], ◌∷◌, map, length, take, drop, Some, None, Ok, Err, Option, MatchOption, unwrap_or, sym, refl, ap, ◌∙◌, subst, inl, inr, arith, length-drop, length-take}
+use Rattle.std.proofs.Common.{◌≡◌, ℕ, ◌+◌, ◌-◌, ◌^◌, ◌<◌, Bool, true, false, ◌&&◌, eqb, List, [], ◌∷◌, map, length, take, drop, Some, None, Ok, Err, Option, unwrap_or, sym, refl, ap, ◌∙◌, subst, inl, inr, arith}
 use lib.ListN.{length-map}
 use Rattle.std.specs.Option.{SomeIff}
 use Rattle.std.specs.List.{AllByRecursion}
@@ -8,10 +8,9 @@ use Rattle.std.proofs.lemmas.Bool.{and_parts, cases_Bool, eqb-true, eq-eqb, ne_e
 use Rattle.std.proofs.ByRecursion.{All-take, All-drop}
 use Rattle.definitions.specs.declared.network.Port.{Port}
 use Rattle.definitions.specs.declared.network.Hop.{Hop}
-use Rattle.definitions.specs.declared.refusals.Refusal.{Refusal}
 use Rattle.definitions.specs.declared.refusals.Refusal.TheVariants.{PortUnknown, NoHopThere, NoHops}
-use Rattle.definitions.specs.Lists.{In, largest, every, ascending}
-use Rattle.definitions.specs.Entries.{first_met, has_port, has_link, has_hop}
+use Rattle.definitions.specs.Lists.{In, largest, ascending}
+use Rattle.definitions.specs.Entries.{has_port, has_link, has_hop}
 use Rattle.definitions.specs.Figures.{Figures, departure, delay, depth, hops_of, earliest_at, latest_at}
 use Rattle.definitions.specs.Promises.{Agree}
 use Rattle.folds.specs.Folds.{Told}
@@ -22,12 +21,12 @@ use Rattle.theory.proofs.Keys.{all_map_in}
 use Rattle.theory.proofs.KeptRules.{none_met}
 use Rattle.working_out.specs.declared.rows.PortRow.{PortRow}
 use Rattle.working_out.specs.declared.rows.HopRow.{HopRow}
-use Rattle.working_out.specs.Keys.{number_before, place_before, port_key, hop_key}
+use Rattle.working_out.specs.Keys.{number_before, place_before, port_key, hop_key, Ports}
 use Rattle.book.specs.declared.books.Book.{Book}
 use Rattle.book.specs.Books.{records, Shows}
 use Rattle.book.specs.LinkRuns.{RunEnd}
-use Rattle.book.specs.Questions.{first_of, port_row, hop_row, shown, row_departure, told, capped, delay_question, link_ground, told_port, told_hop, told_delay}
-use Rattle.book.proofs.Hops.{this_place, has_port_told, has_hop_told, met_first}
+use Rattle.book.specs.Questions.{first_of, port_row, hop_row, shown, row_departure, capped, delay_question, link_ground, told_port, told_hop, told_delay}
+use Rattle.book.proofs.Hops.{this_place, has_port_told, has_hop_told}
 use Rattle.book.proofs.LinkHops.{hops_in_run}
 
 -- ## The row under a key
@@ -103,12 +102,17 @@ module _ (b : Book) (F : Figures) (s : Shows b F) where
 -- ## What is told
 
 -- the backlog under a number
-pub backlog_told : (xs : List PortRow) (n : ℕ) → ascending (by_key number_before port_key) xs ≡ true → (o : Option PortRow) → Getting port_key xs n o
-    → (b : ℕ) → MatchOption o (b ≡ 0) (λ row. b ≡ row.backlog) → b ≡ (port_row xs n).backlog
-backlog_told xs n up (Some x) got b is = is ∙ ap (λ (r : PortRow). r.backlog) (sym (port_row_is xs up x got.0 n got.1))
-backlog_told [] n up None got b is = is
-backlog_told (y ∷ ys) n up None got b is =
-    rw (ne_eqb y.port.number n (got y (inl refl))) (backlog_told ys n (and_parts (every (by_key number_before port_key y) ys) (ascending (by_key number_before port_key) ys) up).1 None (λ z i. got z (inr i)) b is)
+pub backlog_is : (t : Ports) (n : ℕ) (o : Option PortRow) → Getting port_key (rows t) n o → (row : PortRow) → o ≡ Some row → (port_row (rows t) n).backlog ≡ row.backlog
+backlog_is t n o got row e =
+    let (i, at) : Getting port_key (rows t) n (Some row) = subst (Getting port_key (rows t) n) e got in
+    ap (λ (r : PortRow). r.backlog) (port_row_is (rows t) t.ascends row i n at)
+
+no_row : (xs : List PortRow) (n : ℕ) → Getting port_key xs n None → (port_row xs n).backlog ≡ 0
+no_row [] n none = refl
+no_row (x ∷ xs) n none = rw (ne_eqb x.port.number n (none x (inl refl))) (no_row xs n (λ y i. none y (inr i)))
+
+pub no_backlog : (t : Ports) (n : ℕ) (o : Option PortRow) → Getting port_key (rows t) n o → o ≡ None → (port_row (rows t) n).backlog ≡ 0
+no_backlog t n o got e = no_row (rows t) n (subst (Getting port_key (rows t) n) e got)
 
 -- a question about a link that meets neither of the first grounds
 pub link_is_known : (b : Book) (l : ℕ) → None ≡ link_ground b l → (b.standing ≡ true) × (has_link (records b) l ≡ true)

@@ -57,6 +57,7 @@ impl<'a> Book<'a> {
 
     // The three kinds of records are put in alike; in one function for all, the tests, the limit and both refusals would be
     // arguments.
+    #[tactic(auto, using(crate::proofs::Entering::port_present))]
     fn add_port(&mut self, port: Port) -> Result<(), Refusal>
         ensures { Doing (entry_ground (places self.old) (records self.old) (port_entry port)) (entered (records self.old) (port_entry port)) self.old self.new result }
     {
@@ -82,6 +83,7 @@ impl<'a> Book<'a> {
         self.add_link(link)
     }
 
+    #[tactic(auto, using(crate::proofs::Entering::link_added, crate::proofs::Entering::link_present, crate::proofs::Entering::link_full))]
     fn add_link(&mut self, link: VirtualLink) -> Result<(), Refusal>
         ensures { Doing (entry_ground (places self.old) (records self.old) (link_entry link)) (entered (records self.old) (link_entry link)) self.old self.new result }
     {
@@ -110,6 +112,7 @@ impl<'a> Book<'a> {
         self.add_hop(hop)
     }
 
+    #[tactic(auto, using(crate::proofs::Hops::hop_unfit, crate::proofs::Hops::hop_present))]
     fn add_hop(&mut self, hop: Hop) -> Result<(), Refusal>
         ensures { Doing (entry_ground (places self.old) (records self.old) (hop_entry hop)) (entered (records self.old) (hop_entry hop)) self.old self.new result }
     {
@@ -152,6 +155,7 @@ impl<'a> Book<'a> {
         self.links.get(number).is_some()
     }
 
+    #[tactic(auto, using(crate::proofs::Hops::has_port_told, crate::proofs::Hops::port_found))]
     fn find_port(&self, number: u8) -> Option<Port>
         ensures { MatchOption result (has_port (records self.now) number ≡ false) (λ p. (has_port (records self.now) number ≡ true) × (find_port (records self.now).ports number ≡ p)) }
     {
@@ -191,6 +195,7 @@ impl<'a> Book<'a> {
         self.take_link(link)
     }
 
+    #[tactic(auto, using(crate::proofs::LinkHops::link_unknown))]
     fn take_link(&mut self, link: u16) -> Result<(), Refusal>
         ensures { Doing (removal_ground (records self.old) link) (removed (records self.old) link) self.old self.new result }
     {

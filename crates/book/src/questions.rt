@@ -29,6 +29,7 @@ impl<'b, 'a> Measure for Departure<'b, 'a> {
 }
 
 // The backlog of a port, 0 where there is no such port.
+#[tactic(auto, using(crate::proofs::Showing::backlog_is, crate::proofs::Showing::no_backlog))]
 fn backlog_at(ports: &Table<PortRow>, number: u8) -> u64
     ensures { result ≡ (port_row (rows ports.now) number).backlog }
 {

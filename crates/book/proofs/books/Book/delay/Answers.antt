@@ -2,4 +2,4 @@ use Rattle.book.proofs.Asking.{delay_promised}
 use Rattle.book.proofs.books.Book.delay.Goals as goal
 
 pub returns-clause-promise : goal.returns-clause-promise
-returns-clause-promise c = delay_promised c.args.self.now c.args.link c.tell_delay.result c.tell_delay.ensures
+returns-clause-promise c = delay_promised c.args.self.now c.args.link _ c.tell_delay.ensures

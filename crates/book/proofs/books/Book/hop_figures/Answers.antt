@@ -2,4 +2,4 @@ use Rattle.book.proofs.Asking.{hop_promised}
 use Rattle.book.proofs.books.Book.hop_figures.Goals as goal
 
 pub returns-clause-promise : goal.returns-clause-promise
-returns-clause-promise c = hop_promised c.args.self.now c.args.link c.args.port c.tell_hop.result c.tell_hop.ensures
+returns-clause-promise c = hop_promised c.args.self.now c.args.link c.args.port _ c.tell_hop.ensures

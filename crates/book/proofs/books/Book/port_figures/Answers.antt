@@ -2,4 +2,4 @@ use Rattle.book.proofs.Asking.{port_promised}
 use Rattle.book.proofs.books.Book.port_figures.Goals as goal
 
 pub returns-clause-promise : goal.returns-clause-promise
-returns-clause-promise c = port_promised c.args.self.now c.args.port c.tell_port.result c.tell_port.ensures
+returns-clause-promise c = port_promised c.args.self.now c.args.port _ c.tell_port.ensures
