@@ -1,14 +1,14 @@
 -- Entering a hop.
-use Rattle.std.proofs.Common.{◌≡◌, ℕ, zero, suc, Bool, true, false, cond, ◌&&◌, eqb, List, [], ◌∷◌, map, length, take, drop, is_some, Some, None, Ok, Err, Option, sym, refl, ap, ◌∙◌, subst, inl, inr, arith}
+use Rattle.std.proofs.Common.{◌≡◌, ℕ, zero, suc, Bool, true, false, cond, ◌&&◌, eqb, List, [], ◌∷◌, map, take, drop, is_some, Some, None, Ok, Err, Option, sym, refl, ap, ◌∙◌, subst, inl, inr}
 use Rattle.std.proofs.lemmas.Bool.{eq-eqb, ne_eqb, eqb-true, and_from, and_left, and_right, cases_Bool, both_ways}
 use Rattle.definitions.specs.declared.network.Port.{Port}
 use Rattle.definitions.specs.declared.network.VirtualLink.{VirtualLink}
 use Rattle.definitions.specs.declared.network.Hop.{Hop}
 use Rattle.definitions.specs.declared.refusals.Refusal.{Refusal}
-use Rattle.definitions.specs.declared.refusals.Refusal.TheVariants.{HopPresent, HopTableFull}
+use Rattle.definitions.specs.declared.refusals.Refusal.TheVariants.{HopPresent}
 use Rattle.definitions.specs.Lists.{some}
 use Rattle.definitions.specs.Network.{find_port, hop_before, most_hops}
-use Rattle.definitions.specs.Entries.{hop_entry, entry_ground, entered, first_met, hop_grounds, has_port, has_link, has_hop, full}
+use Rattle.definitions.specs.Entries.{hop_entry, entry_ground, entered, first_met, hop_grounds, has_port, has_link, has_hop}
 use Rattle.register.specs.declared.tables.NotInserted.TheVariants.{Present}
 use Rattle.register.specs.Tables.{rows, room, Getting, Inserting}
 use Rattle.theory.proofs.Members.{in_map}
@@ -20,11 +20,11 @@ use Rattle.working_out.specs.declared.rows.HopRow.{HopRow}
 use Rattle.book.specs.declared.books.Book.{Book}
 use Rattle.working_out.specs.Works.{refused_by}
 use Rattle.working_out.specs.Rows.{bare_hop}
-use Rattle.working_out.specs.Keys.{place_before, port_key, link_key, hop_key, Ports, Links}
+use Rattle.working_out.specs.Keys.{place_before, port_key, link_key, hop_key}
 use Rattle.working_out.proofs.Tabled.{ports_ascend, keys_agree}
 use Rattle.book.specs.Books.{records, places, unfit, Doing}
 use Rattle.book.proofs.Adding.{same_records}
-use Rattle.book.proofs.Entering.{map_placed, some_under, none_under, not_full_told, same_places, unchanged, ports_of, links_of}
+use Rattle.book.proofs.Entering.{map_placed, some_under, none_under, not_full_told, same_places, unchanged}
 
 -- ## Looking up
 
@@ -70,16 +70,16 @@ port_found b n o got row e =
 
 pub fit_of : (o : Option Refusal) → Ok tt ≡ refused_by o → None ≡ o
 fit_of None h = refl
-fit_of (Some e) h = let z : ◌≡◌ {A = ℕ} 0 1 = cc in absurd (omega arith)
+fit_of (Some e) h = absurd (cc)
 
 pub unfit_of : (o : Option Refusal) (e : Refusal) → Err e ≡ refused_by o → Some e ≡ o
-unfit_of None e h = let z : ◌≡◌ {A = ℕ} 0 1 = cc in absurd (omega arith)
+unfit_of None e h = absurd (cc)
 unfit_of (Some f) e h = cc
 
 -- ## Grounds in two parts
 
 pub met_first : (n : ℕ) (gs : List (Bool × Refusal)) (e : Refusal) → first_met (take n gs) ≡ Some e → first_met gs ≡ Some e
-met_first zero gs e h = let z : ◌≡◌ {A = ℕ} 0 1 = cc in absurd (omega arith)
+met_first zero gs e h = absurd (cc)
 met_first (suc n) [] e h = h
 met_first (suc n) (g ∷ gs) e h = elim g.0 as (λ b. cond b (Some g.1) (first_met (take n gs)) ≡ Some e → cond b (Some g.1) (first_met gs) ≡ Some e) [
   | true ↦ λ k. k
@@ -90,7 +90,7 @@ pub met_later : (n : ℕ) (gs : List (Bool × Refusal)) → first_met (take n gs
 met_later zero gs h = refl
 met_later (suc n) [] h = refl
 met_later (suc n) (g ∷ gs) h = elim g.0 as (λ b. cond b (Some g.1) (first_met (take n gs)) ≡ None → cond b (Some g.1) (first_met gs) ≡ first_met (drop n gs)) [
-  | true ↦ λ k. let z : ◌≡◌ {A = ℕ} 0 1 = cc in absurd (omega arith)
+  | true ↦ λ k. absurd (cc)
   | false ↦ λ k. met_later n gs k
 ] h
 
@@ -101,27 +101,19 @@ pub hop_unfit : (b : Book) (h : Hop) (e : Refusal) → Err e ≡ refused_by (unf
     → Doing (entry_ground (places b) (records b) (hop_entry h)) (entered (records b) (hop_entry h)) b b (Err e)
 hop_unfit b h e told =
     let ground : entry_ground (places b) (records b) (hop_entry h) ≡ Some e = met_first 6 (hop_grounds (places b) (records b) h) e (sym (unfit_of _ e told)) in
-    subst (λ (o : Option Refusal). Doing o (entered (records b) (hop_entry h)) b b (Err e)) (sym ground) (refl, unchanged b b refl refl refl refl)
+    rw ground (refl, unchanged b b refl refl refl refl)
 
 module _ (b d : Book) (h : Hop) (told : Ok tt ≡ refused_by (unfit (records b) h)) (ports : d.ports ≡ b.ports) (links : d.links ≡ b.links) where
   fit : unfit (records b) h ≡ None
   fit = sym (fit_of (unfit (records b) h) told)
 
-  last_ground : entry_ground (places b) (records b) (hop_entry h) ≡ cond (full (length (map (λ (x : HopRow). x.hop) (rows b.hops))) (room b.hops) most_hops) (Some HopTableFull) None
-  last_ground = met_later 6 (hop_grounds (places b) (records b) h) fit
-
   pub hop_added : room d.hops ≡ room b.hops → Inserting place_before hop_key most_hops (bare_hop h) b.hops d.hops (Ok tt) → d.standing ≡ false
       → Doing (entry_ground (places b) (records b) (hop_entry h)) (entered (records b) (hop_entry h)) b d (Ok tt)
   hop_added same (less, fresh, new) down =
+      let put = ap (map (λ (x : HopRow). x.hop)) new ∙ map_placed (λ (x : HopRow). x.hop) place_before hop_key hop_before keys_agree (bare_hop h) (rows b.hops) in
       let ground : entry_ground (places b) (records b) (hop_entry h) ≡ None
-      = last_ground ∙ rw (not_full_told (λ (x : HopRow). x.hop) (rows b.hops) (room b.hops) most_hops less) in
-      subst (λ (o : Option Refusal). Doing o (entered (records b) (hop_entry h)) b d (Ok tt)) (sym ground) (
-        refl,
-        same_records _ _ _ _ _ _ (ap ports_of ports) (ap links_of links)
-            (ap (map (λ (x : HopRow). x.hop)) new ∙ map_placed (λ (x : HopRow). x.hop) place_before hop_key hop_before keys_agree (bare_hop h) (rows b.hops)),
-        down,
-        same_places _ _ _ _ _ _ (ap (λ (t : Ports). room t) ports) (ap (λ (t : Links). room t) links) same,
-      )
+      = met_later 6 (hop_grounds (places b) (records b) h) fit ∙ rw (not_full_told (λ (x : HopRow). x.hop) (rows b.hops) (room b.hops) most_hops less) in
+      rw ground (refl, same_records (rw ports) (rw links) put, down, same_places (rw ports) (rw links) same)
 
   -- a hop that is there would have been unfit
   pub hop_present : Inserting place_before hop_key most_hops (bare_hop h) b.hops d.hops (Err Present)

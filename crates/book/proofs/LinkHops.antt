@@ -1,5 +1,5 @@
 -- The hops of one link stand together: what stands before them and after them is of other links.
-use Rattle.std.proofs.Common.{◌≡◌, ℕ, zero, suc, ◌+◌, ◌-◌, ◌<◌, ◌≤◌, Bool, true, false, cond, not, ◌&&◌, ◌||◌, eqb, List, [], ◌∷◌, ◌++◌, map, length, get_or, take, drop, Some, None, Ok, Err, filter, Option, sym, refl, ap, ◌∙◌, subst, inl, inr, add-one, arith, length-take}
+use Rattle.std.proofs.Common.{◌≡◌, ℕ, zero, suc, ◌+◌, ◌-◌, ◌<◌, ◌≤◌, Bool, true, false, cond, not, ◌&&◌, ◌||◌, eqb, List, [], ◌∷◌, ◌++◌, map, length, get_or, take, drop, None, Ok, Err, filter, sym, refl, ap, ◌∙◌, subst, inl, inr, add-one, arith, length-take}
 use Rattle.std.specs.List.{AllByRecursion}
 use Rattle.std.proofs.lemmas.Bool.Decides.{nat_tests}
 use Rattle.std.proofs.lemmas.Bool.{eq-eqb, ne_eqb, and_parts, cases_lt, ltb-true, or_left, or_right}
@@ -7,22 +7,23 @@ use Rattle.std.proofs.lemmas.List.{take-append-drop, drop-drop, drop_more, drop_
 use Rattle.std.proofs.ByRecursion.{All-weaker, All-drop, All-from_get_or}
 use Rattle.definitions.specs.declared.network.VirtualLink.{VirtualLink}
 use Rattle.definitions.specs.declared.network.Hop.{Hop}
-use Rattle.definitions.specs.declared.refusals.Refusal.{Refusal}
 use Rattle.definitions.specs.declared.refusals.Refusal.TheVariants.{LinkUnknown}
 use Rattle.definitions.specs.Lists.{every, some, ascending}
 use Rattle.definitions.specs.Entries.{begins, has_link, has_first_hop, removal_ground, removed}
 use Rattle.register.specs.Tables.{rows, room, by_key, TableBy, Found, Starts, Removing}
-use Rattle.register.proofs.Sorted.{without_ascends, none_under as absent_under}
+use Rattle.register.proofs.Sorted.{without_ascends, getD_in, none_under as absent_under}
+use Rattle.theory.proofs.Members.{all_in}
+use Rattle.theory.proofs.Lookups.{in_every}
+use Rattle.std.proofs.lemmas.List.Elements.{filter-append}
 use Rattle.working_out.specs.declared.rows.LinkRow.{LinkRow}
 use Rattle.working_out.specs.declared.rows.HopRow.{HopRow}
 use Rattle.book.specs.declared.books.Book.{Book}
-use Rattle.working_out.specs.Keys.{number_before, place_before, link_key, hop_key, Ports}
+use Rattle.working_out.specs.Keys.{number_before, place_before, link_key, hop_key}
 use Rattle.working_out.proofs.Under.{numbers_one}
 use Rattle.book.specs.Books.{records, Doing}
 use Rattle.book.proofs.Adding.{same_records}
-use Rattle.book.proofs.Entering.{none_under, same_places, unchanged, ports_of}
+use Rattle.book.proofs.Entering.{none_under, same_places, unchanged}
 use Rattle.book.specs.LinkRuns.{RunEnd}
-use Rattle.book.proofs.Runs.{row_begins}
 
 abbrev no_row : HopRow
 no_row = record { hop = record { link = 0; port = 0; after = None }; earliest = 0; latest = 0 }
@@ -43,13 +44,6 @@ links_rise r s h = grind (arith, nat_tests)
 
 -- ## Filters and tests over parts
 
-kept_append : {X : Type 0} (t : X → Bool) (xs ys : List X) → filter t (xs ++ ys) ≡ filter t xs ++ filter t ys
-kept_append t [] ys = refl
-kept_append t (x ∷ xs) ys = elim (t x) as (λ b. cond b (x ∷ filter t (xs ++ ys)) (filter t (xs ++ ys)) ≡ cond b (x ∷ filter t xs) (filter t xs) ++ filter t ys) [
-  | true ↦ ap (λ l. x ∷ l) (kept_append t xs ys)
-  | false ↦ kept_append t xs ys
-]
-
 kept_all : {X Y : Type 0} (f : X → Y) (t : Y → Bool) (xs : List X) → AllByRecursion (λ x. t (f x) ≡ true) xs → filter t (map f xs) ≡ map f xs
 kept_all f t [] a = refl
 kept_all f t (x ∷ xs) a = rw a.0 (ap (λ l. f x ∷ l) (kept_all f t xs a.1))
@@ -58,24 +52,17 @@ kept_none : {X Y : Type 0} (f : X → Y) (t : Y → Bool) (xs : List X) → AllB
 kept_none f t [] a = refl
 kept_none f t (x ∷ xs) a = rw a.0 (kept_none f t xs a.1)
 
-some_append : {X : Type 0} (t : X → Bool) (xs ys : List X) → some t (xs ++ ys) ≡ (some t xs || some t ys)
-some_append t [] ys = refl
-some_append t (x ∷ xs) ys = elim (t x) as (λ b. (b || some t (xs ++ ys)) ≡ ((b || some t xs) || some t ys)) [
-  | true ↦ refl
-  | false ↦ some_append t xs ys
+-- a test of two parts, the first of which is the filter's
+some_kept : {X : Type 0} (t u : X → Bool) (xs : List X) → some (λ x. t x && u x) xs ≡ some u (filter t xs)
+some_kept t u [] = refl
+some_kept t u (x ∷ xs) = elim (t x) as (λ b. ((b && u x) || some (λ y. t y && u y) xs) ≡ some u (cond b (x ∷ filter t xs) (filter t xs))) [
+  | true ↦ ap (λ b. u x || b) (some_kept t u xs)
+  | false ↦ some_kept t u xs
 ]
 
-some_none : {X Y : Type 0} (f : X → Y) (t : Y → Bool) (xs : List X) → AllByRecursion (λ x. t (f x) ≡ false) xs → some t (map f xs) ≡ false
-some_none f t [] a = refl
-some_none f t (x ∷ xs) a = rw a.0 (some_none f t xs a.1)
-
-some_same : {X Y : Type 0} (f : X → Y) (t : Y → Bool) (u : X → Bool) (xs : List X) → AllByRecursion (λ x. t (f x) ≡ u x) xs → some t (map f xs) ≡ some u xs
-some_same f t u [] a = refl
-some_same f t u (x ∷ xs) a = rw (a.0, some_same f t u xs a.1)
-
-or_none : (b : Bool) → (b || false) ≡ b
-or_none true = refl
-or_none false = refl
+some_map : {X Y : Type 0} (f : X → Y) (t : Y → Bool) (xs : List X) → some t (map f xs) ≡ some (λ x. t (f x)) xs
+some_map f t [] = refl
+some_map f t (x ∷ xs) = ap (λ b. t (f x) || b) (some_map f t xs)
 
 -- ## The three parts
 
@@ -99,10 +86,7 @@ module _ (rs : List HopRow) (l from to : ℕ) (up : ascending (by_key place_befo
       ap (λ n. drop n rs) (sym e) ∙ sym (drop-drop (to - from) from rs)
 
   rises : (y : HopRow) (zs : List HopRow) → l < y.hop.link → every (by_key place_before hop_key y) zs ≡ true → AllByRecursion (λ (r : HopRow). ¬ (r.hop.link ≡ l)) zs
-  rises y [] lt h = tt
-  rises y (z ∷ zs) lt h =
-      let (a, b) = and_parts (by_key place_before hop_key y z) (every (by_key place_before hop_key y) zs) h in
-      ((λ e. omega (arith, links_rise y z a)), rises y zs lt b)
+  rises y zs lt h = all_in _ zs (λ z i e. omega (arith, links_rise y z (in_every (by_key place_before hop_key y) zs h z i)))
 
   back_others : AllByRecursion (λ (r : HopRow). ¬ (r.hop.link ≡ l)) (drop to rs)
   back_others = elim (cases_lt to (length rs)) [
@@ -126,8 +110,8 @@ module _ (rs : List HopRow) (l from to : ℕ) (up : ascending (by_key place_befo
   kept_parts t =
       ap (λ x. filter t (map hop_of x)) parts
       ∙ ap (filter t) (map-append hop_of (take from rs) (mid ++ drop to rs) ∙ ap (λ x. map hop_of (take from rs) ++ x) (map-append hop_of mid (drop to rs)))
-      ∙ kept_append t (map hop_of (take from rs)) (map hop_of mid ++ map hop_of (drop to rs))
-      ∙ ap (λ x. filter t (map hop_of (take from rs)) ++ x) (kept_append t (map hop_of mid) (map hop_of (drop to rs)))
+      ∙ filter-append t (map hop_of (take from rs)) (map hop_of mid ++ map hop_of (drop to rs))
+      ∙ ap (λ x. filter t (map hop_of (take from rs)) ++ x) (filter-append t (map hop_of mid) (map hop_of (drop to rs)))
 
   -- the hops of other links are those before and after the run
   pub others_left : filter (λ (h : Hop). not (eqb h.link l)) (map hop_of rs) ≡ map hop_of (take from rs ++ drop to rs)
@@ -157,27 +141,13 @@ module _ (rs : List HopRow) (l from to : ℕ) (up : ascending (by_key place_befo
       )
       (append-nil (map hop_of mid))
 
-  -- a first hop of the link is one of the run
-  pub first_in_run : some (λ (h : Hop). eqb h.link l && begins h) (map hop_of rs) ≡ some row_begins mid
-  first_in_run =
-      let t : Hop → Bool = λ (h : Hop). eqb h.link l && begins h in
-      let other : (r : HopRow) → ¬ (r.hop.link ≡ l) → t (hop_of r) ≡ false = λ r n. ap (λ b. b && begins r.hop) (ne_eqb r.hop.link l n) in
-      let alike : (r : HopRow) → r.hop.link ≡ l → t (hop_of r) ≡ row_begins r = λ r e. ap (λ b. b && begins r.hop) (eq-eqb r.hop.link l e) in
-      ap (λ x. some t (map hop_of x)) parts
-      ∙ ap (some t) (map-append hop_of (take from rs) (mid ++ drop to rs) ∙ ap (λ x. map hop_of (take from rs) ++ x) (map-append hop_of mid (drop to rs)))
-      ∙ some_append t (map hop_of (take from rs)) (map hop_of mid ++ map hop_of (drop to rs))
-      ∙ ap (λ b. some t (map hop_of (take from rs)) || b) (some_append t (map hop_of mid) (map hop_of (drop to rs)))
-      ∙ rw (
-        some_none hop_of t (take from rs) (All-weaker (λ (r : HopRow). ¬ (r.hop.link ≡ l)) (λ (r : HopRow). t (hop_of r) ≡ false) other (take from rs) front_others),
-        some_none hop_of t (drop to rs) (All-weaker (λ (r : HopRow). ¬ (r.hop.link ≡ l)) (λ (r : HopRow). t (hop_of r) ≡ false) other (drop to rs) back_others),
-        some_same hop_of t row_begins mid (All-weaker (λ (r : HopRow). r.hop.link ≡ l) (λ (r : HopRow). t (hop_of r) ≡ row_begins r) alike mid mid_alike),
-      )
-      (or_none (some row_begins mid))
-
 -- whether a link has a first hop, told by its run
 pub first_hop_told : (b : Book) (l from to : ℕ) → Starts place_before hop_key (rows b.hops) (l, 0) from → RunEnd (rows b.hops) l from to
     → has_first_hop (records b) l ≡ some (λ (x : HopRow). begins x.hop) (take (to - from) (drop from (rows b.hops)))
-first_hop_told b l from to st re = first_in_run (rows b.hops) l from to b.hops.ascends st re
+first_hop_told b l from to st re =
+    some_kept (λ (h : Hop). eqb h.link l) begins (records b).hops
+    ∙ ap (some begins) (hops_in_run (rows b.hops) l from to b.hops.ascends st re)
+    ∙ some_map hop_of begins (take (to - from) (drop from (rows b.hops)))
 
 -- ## Removing
 
@@ -190,15 +160,8 @@ run_gone lt key from to t u false (same, n) le most = absurd (n (le, most))
 -- the link at its place is the only one of its number
 module _ (l : ℕ) where
   larger : (y : LinkRow) (zs : List LinkRow) → y.link.number ≡ l → every (by_key number_before link_key y) zs ≡ true → AllByRecursion (λ (r : LinkRow). not (eqb r.link.number l) ≡ true) zs
-  larger y [] e h = tt
-  larger y (z ∷ zs) e h =
-      let (a, b) = and_parts (by_key number_before link_key y z) (every (by_key number_before link_key y) zs) h in
-      (ap not (ne_eqb z.link.number l (λ q. omega (arith, ltb-true y.link.number z.link.number a))), larger y zs e b)
-
-  in_every : (test : LinkRow → Bool) (zs : List LinkRow) → every test zs ≡ true → (i : ℕ) (d : LinkRow) → i < length zs → test (get_or zs i d) ≡ true
-  in_every test [] h i d lt = absurd (omega arith)
-  in_every test (u ∷ us) h zero d lt = (and_parts (test u) (every test us) h).0
-  in_every test (u ∷ us) h (suc i) d lt = in_every test us (and_parts (test u) (every test us) h).1 i d (omega arith)
+  larger y zs e h = all_in _ zs (λ z i.
+      ap not (ne_eqb z.link.number l (λ q. omega (arith, ltb-true y.link.number z.link.number (in_every (by_key number_before link_key y) zs h z i)))))
 
   one_link_left : (rs : List LinkRow) (i : ℕ) → ascending (by_key number_before link_key) rs ≡ true → i < length rs → ((d : LinkRow) → link_key (get_or rs i d) ≡ l)
       → filter (λ (m : VirtualLink). not (eqb m.number l)) (map (λ (r : LinkRow). r.link) rs) ≡ map (λ (r : LinkRow). r.link) (take i rs ++ drop (suc i) rs)
@@ -209,7 +172,7 @@ module _ (l : ℕ) where
       (kept_all (λ (r : LinkRow). r.link) (λ (m : VirtualLink). not (eqb m.number l)) ys (larger y ys (e y) first))
   one_link_left (y ∷ ys) (suc i) up lt e =
       let (first, rest) = and_parts (every (by_key number_before link_key y) ys) (ascending (by_key number_before link_key) ys) up in
-      let less = ltb-true y.link.number (get_or ys i y).link.number (in_every (by_key number_before link_key y) ys first i y (omega arith)) in
+      let less = ltb-true y.link.number (get_or ys i y).link.number (in_every (by_key number_before link_key y) ys first (get_or ys i y) (getD_in ys i y (omega arith))) in
       rw (ne_eqb y.link.number l (λ q. omega (arith, e y)))
       (ap (λ x. y.link ∷ x) (one_link_left ys i rest (omega arith) e))
 
@@ -223,15 +186,9 @@ link_taken b d l place from to x y found st re links hops ports down =
     let (room-l, new-l) = run_gone number_before link_key place (place + 1) b.links d.links x links (omega arith) (omega (arith, found.0)) in
     let (room-h, new-h) = run_gone place_before hop_key from to b.hops d.hops y hops re.in_order re.within in
     let known : has_link (records b) l ≡ true = link_known (rows b.links) place found.0 found.1 in
-    let ground : removal_ground (records b) l ≡ None = rw known in
-    subst (λ (o : Option Refusal). Doing o (removed (records b) l) b d (Ok tt)) (sym ground) (
-      refl,
-      same_records _ _ _ _ _ _ (ap ports_of ports)
-          (ap (map (λ (r : LinkRow). r.link)) (new-l ∙ rw (add-one place)) ∙ sym (one_link_left l (rows b.links) place b.links.ascends found.0 found.1))
-          (ap (map hop_of) new-h ∙ sym (others_left (rows b.hops) l from to b.hops.ascends st re)),
-      down,
-      same_places _ _ _ _ _ _ (ap (λ (t : Ports). room t) ports) room-l room-h,
-    )
+    let links_left = ap (map (λ (r : LinkRow). r.link)) (new-l ∙ rw (add-one place)) ∙ sym (one_link_left l (rows b.links) place b.links.ascends found.0 found.1) in
+    let hops_left = ap (map hop_of) new-h ∙ sym (others_left (rows b.hops) l from to b.hops.ascends st re) in
+    rw known (refl, same_records (rw ports) links_left hops_left, down, same_places (rw ports) room-l room-h)
   where
     link_known : (rs : List LinkRow) (i : ℕ) → i < length rs → ((d : LinkRow) → link_key (get_or rs i d) ≡ l)
         → some (λ (m : VirtualLink). eqb m.number l) (map (λ (r : LinkRow). r.link) rs) ≡ true
@@ -246,5 +203,4 @@ link_unknown b l i found =
     let absent = absent_under number_before numbers_one link_key l (rows b.links) i found.1 found.2 in
     let unknown : has_link (records b) l ≡ false
     = none_under (λ (r : LinkRow). r.link) link_key l (λ (m : VirtualLink). eqb m.number l) (λ z n. ne_eqb z.link.number l n) (rows b.links) absent in
-    let ground : removal_ground (records b) l ≡ Some LinkUnknown = rw unknown in
-    subst (λ (o : Option Refusal). Doing o (removed (records b) l) b b (Err LinkUnknown)) (sym ground) (refl, unchanged b b refl refl refl refl)
+    rw unknown (refl, unchanged b b refl refl refl refl)
