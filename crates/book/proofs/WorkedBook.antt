@@ -1,8 +1,8 @@
 -- A working-out is a call more in every list of calls that led to the book.
-use Rattle.std.proofs.Common.{◌≡◌, ℕ, List, [], ◌∷◌, ◌++◌, is_some, is_ok, Some, None, Option, Result, refl, ap, ◌∙◌}
+use Rattle.std.proofs.Common.{◌≡◌, ℕ, List, [], ◌∷◌, ◌++◌, is_some, is_ok, Some, None, Option, Result, refl, ap, ◌∙◌, subst}
 use Rattle.definitions.specs.declared.loads.Load.{Load}
 use Rattle.definitions.specs.declared.refusals.Refusal.{Refusal}
-use Rattle.definitions.specs.Network.{WellFormed}
+use Rattle.definitions.specs.Network.{Records, WellFormed}
 use Rattle.definitions.specs.Methods.{Lawful}
 use Rattle.definitions.specs.Figures.{Figures, Settled}
 use Rattle.definitions.specs.WorkingOut.{Outcome, settles, short, overloaded, ring, past, refusal_of, WorksOut}
@@ -34,47 +34,43 @@ module _ (worth : List Load → ℕ) (law : Lawful worth) (n : ℕ) (b d : Book)
   same = same_records did.held.ports (rw w.links) did.held.hops
 
   -- the state after it, by outcome
-  module _ (o : Outcome) (is : a ≡ result_of o) (comes : WorksOut (records b) worth n o) (left : FiguresLeft (records b) worth (rows d.ports) (rows d.hops) o) where
-    held_on : (o : Outcome) → records d ≡ (worked m.state method n o).records
-    held_on settles = same ∙ m.holds
-    held_on short = same ∙ m.holds
-    held_on (overloaded p) = same ∙ m.holds
-    held_on (ring p) = same ∙ m.holds
-    held_on (past p) = same ∙ m.holds
+  held_on : (o : Outcome) → m.state.records ≡ (worked m.state method n o).records
+  held_on settles = refl
+  held_on short = refl
+  held_on (overloaded p) = refl
+  held_on (ring p) = refl
+  held_on (past p) = refl
 
-    stands_on : (o : Outcome) → a ≡ result_of o → d.standing ≡ is_some (worked m.state method n o).served
-    stands_on settles e = w.stands ∙ ap is_ok e
-    stands_on short e = w.stands ∙ ap is_ok e
-    stands_on (overloaded p) e = w.stands ∙ ap is_ok e
-    stands_on (ring p) e = w.stands ∙ ap is_ok e
-    stands_on (past p) e = w.stands ∙ ap is_ok e
+  stands_on : (o : Outcome) → is_ok (result_of o) ≡ is_some (worked m.state method n o).served
+  stands_on settles = refl
+  stands_on short = refl
+  stands_on (overloaded p) = refl
+  stands_on (ring p) = refl
+  stands_on (past p) = refl
 
-    shows_on : (o : Outcome) → FiguresLeft (records b) worth (rows d.ports) (rows d.hops) o
-        → (v : Served) → (worked m.state method n o).served ≡ Some v
-        → (F : Figures) × Settled (records d) v.method.worth F × Shows d F
-    shows_on settles (F, settled, shown) v e =
-        let v-is : record { method = method; places = n } ≡ v = some_same _ _ e in (
-          F,
-          rw (← v-is, same) settled,
-          let at-d : Shown (records d) F (rows d.ports) (rows d.hops) = rw same shown in
-              record { ports = at-d.ports; hops = at-d.hops },
-        )
-    shows_on short z v e = absurd (none_some v e)
-    shows_on (overloaded p) z v e = absurd (none_some v e)
-    shows_on (ring p) z v e = absurd (none_some v e)
-    shows_on (past p) z v e = absurd (none_some v e)
-
-    made_on : Made (cs ++ (work_out method n ∷ [])) (as' ++ (answer_of a ∷ [])) d
-    made_on = record {
-      state = worked m.state method n o;
-      runs = rw w.tables (runs_push (opened (places b)) cs as' m.state (work_out method n) (answer_of a) (worked m.state method n o) m.runs (record {
-        fits = tt;
-        does = (o, rw (← m.holds) comes, ap answer_of is ∙ answers (refusal_of o), refl);
-      }));
-      holds = held_on o;
-      stands = stands_on o is;
-      shows = shows_on o left;
-    }
+  shows_on : (o : Outcome) → FiguresLeft (records b) worth (rows d.ports) (rows d.hops) o
+      → (v : Served) → (worked m.state method n o).served ≡ Some v
+      → (F : Figures) × Settled (records d) v.method.worth F × Shows d F
+  shows_on settles (F, settled, shown) v e =
+      let v-is : record { method = method; places = n } ≡ v = some_same _ _ e in
+      let at-d : Shown (records d) F (rows d.ports) (rows d.hops) = rw same shown in
+      (F, rw (← v-is, same) settled, record { ports = at-d.ports; hops = at-d.hops })
+  shows_on short z v e = absurd (none_some v e)
+  shows_on (overloaded p) z v e = absurd (none_some v e)
+  shows_on (ring p) z v e = absurd (none_some v e)
+  shows_on (past p) z v e = absurd (none_some v e)
 
   pub made_working : Made (cs ++ (work_out (record { worth = worth; lawful = law }) n ∷ [])) (as' ++ (answer_of a ∷ [])) d
-  made_working = made_on did.outcome did.answer did.comes did.left
+  made_working =
+      let o = did.outcome in
+      let s = worked m.state method n o in
+      record {
+        state = s;
+        runs = rw w.tables (runs_push (opened (places b)) cs as' m.state (work_out method n) (answer_of a) s m.runs (record {
+          fits = tt;
+          does = (o, subst (λ (r : Records). WorksOut r worth n o) m.holds did.comes, ap answer_of did.answer ∙ answers (refusal_of o), refl);
+        }));
+        holds = same ∙ m.holds ∙ held_on o;
+        stands = w.stands ∙ ap is_ok did.answer ∙ stands_on o;
+        shows = shows_on o did.left;
+      }
