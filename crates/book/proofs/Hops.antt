@@ -1,5 +1,6 @@
 -- Entering a hop.
-use Rattle.std.proofs.Common.{◌≡◌, ℕ, zero, suc, Bool, true, false, cond, ◌&&◌, eqb, List, [], ◌∷◌, map, take, drop, is_some, Some, None, Ok, Err, Option, sym, refl, ap, ◌∙◌, subst, inl, inr}
+use Rattle.std.proofs.Common.{arith, ◌≡◌, ℕ, zero, suc, Bool, true, false, cond, ◌&&◌, eqb, List, [], ◌∷◌, map, take, drop, is_some, Some, None, Ok, Err, Option, sym, refl, ap, ◌∙◌, subst, inl, inr}
+use Rattle.std.proofs.lemmas.Bool.Decides.{nat_tests}
 use Rattle.std.proofs.lemmas.Bool.{eq-eqb, ne_eqb, eqb-true, and_from, and_left, and_right, cases_Bool, both_ways}
 use Rattle.definitions.specs.declared.network.Port.{Port}
 use Rattle.definitions.specs.declared.network.VirtualLink.{VirtualLink}
@@ -45,16 +46,10 @@ has_port_told b n = told_by_get (λ (x : PortRow). x.port) port_key n (λ (p : P
 
 -- a key of another place
 pub other_place : (l p : ℕ) (y : HopRow) → ¬ (hop_key y ≡ (l, p)) → (eqb y.hop.link l && eqb y.hop.port p) ≡ false
-other_place l p y n = elim (cases_Bool (eqb y.hop.link l)) [
-  | inl a ↦ elim (cases_Bool (eqb y.hop.port p)) [
-    | inl b ↦ absurd (n (ap (λ u. (u, y.hop.port)) (eqb-true y.hop.link l a) ∙ ap (λ v. (l, v)) (eqb-true y.hop.port p b)))
-    | inr b ↦ and_right (eqb y.hop.link l) (eqb y.hop.port p) b
-  ]
-  | inr a ↦ and_left (eqb y.hop.link l) (eqb y.hop.port p) a
-]
+other_place l p y n = grind (arith, nat_tests)
 
 pub this_place : (l p : ℕ) (y : HopRow) → hop_key y ≡ (l, p) → (eqb y.hop.link l && eqb y.hop.port p) ≡ true
-this_place l p y e = and_from (eqb y.hop.link l) (eqb y.hop.port p) (eq-eqb y.hop.link l (ap (λ (x : ℕ × ℕ). x.0) e)) (eq-eqb y.hop.port p (ap (λ (x : ℕ × ℕ). x.1) e))
+this_place l p y e = grind (arith, nat_tests)
 
 pub has_hop_told : (b : Book) (l p : ℕ) (r : Option HopRow) → Getting hop_key (rows b.hops) (l, p) r → is_some r ≡ has_hop (records b) l p
 has_hop_told b l p = told_by_get (λ (x : HopRow). x.hop) hop_key (l, p) (λ (h : Hop). eqb h.link l && eqb h.port p) (this_place l p) (other_place l p) (rows b.hops)

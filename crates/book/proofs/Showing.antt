@@ -66,9 +66,7 @@ hop_row_is xs up x i l p e =
     never m q = grind (arith, nat_tests)
 
     here : (y : HopRow) → (eqb y.hop.link l && eqb y.hop.port p) ≡ true → hop_key y ≡ (l, p)
-    here y t =
-        let (a, b) = and_parts (eqb y.hop.link l) (eqb y.hop.port p) t in
-        ap (λ u. (u, y.hop.port)) (eqb-true y.hop.link l a) ∙ ap (λ w. (l, w)) (eqb-true y.hop.port p b)
+    here y t = grind (arith, nat_tests)
 
 -- ## Figures that the rows show
 
