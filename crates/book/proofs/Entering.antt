@@ -26,11 +26,7 @@ module _ {R S K : Type 0} (f : R → S) (lt : K → K → Bool) (key : R → K) 
   -- a row put in its place puts its record in its place
   pub map_placed : (x : R) (xs : List R) → map f (placed (by_key lt key) x xs) ≡ placed before (f x) (map f xs)
   map_placed x [] = refl
-  map_placed x (y ∷ ys) = rw (sym (agree x y)) (elim (lt (key x) (key y)) as (λ b.
-      map f (cond b (x ∷ y ∷ ys) (y ∷ placed (by_key lt key) x ys)) ≡ cond b (f x ∷ f y ∷ map f ys) (f y ∷ placed before (f x) (map f ys))) [
-        | true ↦ refl
-        | false ↦ ap (λ l. f y ∷ l) (map_placed x ys)
-      ])
+  map_placed x (y ∷ ys) = grind (arith, agree x y, map_placed x ys)
 
 module _ {R S K : Type 0} (f : R → S) (key : R → K) (k : K) (test : S → Bool) where
   -- a row under the key passes the test of its record
@@ -40,7 +36,7 @@ module _ {R S K : Type 0} (f : R → S) (key : R → K) (k : K) (test : S → Bo
   -- where no row is under the key, none passes
   pub none_under : ((y : R) → ¬ (key y ≡ k) → test (f y) ≡ false) → (xs : List R) → ((y : R) → In y xs → ¬ (key y ≡ k)) → some test (map f xs) ≡ false
   none_under t [] n = refl
-  none_under t (x ∷ xs) n = or_from (test (f x)) (some test (map f xs)) (t x (n x (inl refl))) (none_under t xs (λ y i. n y (inr i)))
+  none_under t (x ∷ xs) n = rw (t x (n x (inl refl))) (none_under t xs (λ y i. n y (inr i)))
 
 -- whether a table is full, told by its rows
 pub full_told : {R S : Type 0} (f : R → S) (xs : List R) (room most : ℕ) → min room most ≤ length xs → full (length (map f xs)) room most ≡ true

@@ -76,18 +76,12 @@ unfit_of (Some f) e h = cc
 pub met_first : (n : ℕ) (gs : List (Bool × Refusal)) (e : Refusal) → first_met (take n gs) ≡ Some e → first_met gs ≡ Some e
 met_first zero gs e h = absurd (cc)
 met_first (suc n) [] e h = h
-met_first (suc n) (g ∷ gs) e h = elim g.0 as (λ b. cond b (Some g.1) (first_met (take n gs)) ≡ Some e → cond b (Some g.1) (first_met gs) ≡ Some e) [
-  | true ↦ λ k. k
-  | false ↦ λ k. met_first n gs e k
-] h
+met_first (suc n) (g ∷ gs) e h = grind (arith, met_first n gs e)
 
 pub met_later : (n : ℕ) (gs : List (Bool × Refusal)) → first_met (take n gs) ≡ None → first_met gs ≡ first_met (drop n gs)
 met_later zero gs h = refl
 met_later (suc n) [] h = refl
-met_later (suc n) (g ∷ gs) h = elim g.0 as (λ b. cond b (Some g.1) (first_met (take n gs)) ≡ None → cond b (Some g.1) (first_met gs) ≡ first_met (drop n gs)) [
-  | true ↦ λ k. absurd (cc)
-  | false ↦ λ k. met_later n gs k
-] h
+met_later (suc n) (g ∷ gs) h = grind (arith, met_later n gs)
 
 -- ## Hops
 

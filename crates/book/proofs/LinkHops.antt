@@ -55,10 +55,7 @@ kept_none f t (x ∷ xs) a = rw a.0 (kept_none f t xs a.1)
 -- a test of two parts, the first of which is the filter's
 some_kept : {X : Type 0} (t u : X → Bool) (xs : List X) → some (λ x. t x && u x) xs ≡ some u (filter t xs)
 some_kept t u [] = refl
-some_kept t u (x ∷ xs) = elim (t x) as (λ b. ((b && u x) || some (λ y. t y && u y) xs) ≡ some u (cond b (x ∷ filter t xs) (filter t xs))) [
-  | true ↦ ap (λ b. u x || b) (some_kept t u xs)
-  | false ↦ some_kept t u xs
-]
+some_kept t u (x ∷ xs) = grind (arith, some_kept t u xs)
 
 some_map : {X Y : Type 0} (f : X → Y) (t : Y → Bool) (xs : List X) → some t (map f xs) ≡ some (λ x. t (f x)) xs
 some_map f t [] = refl

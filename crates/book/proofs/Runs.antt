@@ -37,10 +37,7 @@ module _ (rs : List HopRow) (l from : ℕ) (le : from ≤ length rs) where
 
 -- a hop after none begins its link
 pub begins_is : (h : Hop) (b : Bool) → b ≡ is_none h.after → b ≡ begins h
-begins_is h b = elim h.after as (λ o. b ≡ is_none o → b ≡ elim o as (λ _. Bool) [ None ↦ true | Some q ↦ false ]) [
-  | None ↦ λ e. e
-  | Some q ↦ λ e. e
-]
+begins_is h b e = grind arith
 
 abbrev pub row_begins : HopRow → Bool
 row_begins r = begins r.hop
