@@ -1,8 +1,8 @@
 -- The hops of one link stand together: what stands before them and after them is of other links.
-use Rattle.std.proofs.Common.{◌≡◌, ℕ, zero, suc, ◌+◌, ◌-◌, ◌<◌, ◌≤◌, Bool, true, false, cond, not, ◌&&◌, ◌||◌, eqb, List, [], ◌∷◌, ◌++◌, map, length, get_or, take, drop, None, Ok, Err, filter, sym, refl, ap, ◌∙◌, subst, inl, inr, add-one, arith, length-take}
+use Rattle.std.proofs.Common.{◌≡◌, ℕ, zero, suc, ◌+◌, ◌-◌, ◌<◌, ◌≤◌, Bool, true, false, not, ◌&&◌, ◌||◌, eqb, List, [], ◌∷◌, ◌++◌, map, length, get_or, take, drop, None, Ok, Err, filter, sym, refl, ap, ◌∙◌, subst, inl, inr, add-one, arith, length-take}
 use Rattle.std.specs.List.{AllByRecursion}
 use Rattle.std.proofs.lemmas.Bool.Decides.{nat_tests}
-use Rattle.std.proofs.lemmas.Bool.{eq-eqb, ne_eqb, and_parts, cases_lt, ltb-true, or_left, or_right}
+use Rattle.std.proofs.lemmas.Bool.{eq-eqb, ne_eqb, and_parts, cases_lt, ltb-true}
 use Rattle.std.proofs.lemmas.List.{take-append-drop, drop-drop, drop_more, drop_all, get_or-take, get_or-drop, map-append, append-nil}
 use Rattle.std.proofs.ByRecursion.{All-weaker, All-drop, All-from_get_or}
 use Rattle.definitions.specs.declared.network.VirtualLink.{VirtualLink}
@@ -22,11 +22,14 @@ use Rattle.working_out.specs.Keys.{number_before, place_before, link_key, hop_ke
 use Rattle.working_out.proofs.Under.{numbers_one}
 use Rattle.book.specs.Books.{records, Doing}
 use Rattle.book.proofs.Adding.{same_records}
-use Rattle.book.proofs.Entering.{none_under, same_places, unchanged}
+use Rattle.book.proofs.Entering.{some_under, none_under, same_places, unchanged}
 use Rattle.book.specs.LinkRuns.{RunEnd}
 
 abbrev no_row : HopRow
 no_row = record { hop = record { link = 0; port = 0; after = None }; earliest = 0; latest = 0 }
+
+abbrev no_link : LinkRow
+no_link = record { link = record { number = 0; gap = 0; shortest = 0; longest = 0 } }
 
 abbrev hop_of : HopRow → Hop
 hop_of r = r.hop
@@ -80,7 +83,7 @@ module _ (rs : List HopRow) (l from to : ℕ) (up : ascending (by_key place_befo
   back_is : drop to rs ≡ drop (to - from) (drop from rs)
   back_is =
       let e : from + (to - from) ≡ to = omega (arith, re.in_order) in
-      ap (λ n. drop n rs) (sym e) ∙ sym (drop-drop (to - from) from rs)
+      rw (drop-drop (to - from) from rs, e)
 
   rises : (y : HopRow) (zs : List HopRow) → l < y.hop.link → every (by_key place_before hop_key y) zs ≡ true → AllByRecursion (λ (r : HopRow). ¬ (r.hop.link ≡ l)) zs
   rises y zs lt h = all_in _ zs (λ z i e. omega (arith, links_rise y z (in_every (by_key place_before hop_key y) zs h z i)))
@@ -99,16 +102,11 @@ module _ (rs : List HopRow) (l from to : ℕ) (up : ascending (by_key place_befo
   ]
 
   parts : rs ≡ take from rs ++ (mid ++ drop to rs)
-  parts =
-      sym (take-append-drop from rs) ∙ ap (λ t. take from rs ++ t) (sym (take-append-drop (to - from) (drop from rs)) ∙ ap (λ t. mid ++ t) (sym back_is))
+  parts = sym (rw (back_is, take-append-drop (to - from) (drop from rs)) (take-append-drop from rs))
 
   -- a filter over the hops, part by part
   kept_parts : (t : Hop → Bool) → filter t (map hop_of rs) ≡ filter t (map hop_of (take from rs)) ++ (filter t (map hop_of mid) ++ filter t (map hop_of (drop to rs)))
-  kept_parts t =
-      ap (λ x. filter t (map hop_of x)) parts
-      ∙ ap (filter t) (map-append hop_of (take from rs) (mid ++ drop to rs) ∙ ap (λ x. map hop_of (take from rs) ++ x) (map-append hop_of mid (drop to rs)))
-      ∙ filter-append t (map hop_of (take from rs)) (map hop_of mid ++ map hop_of (drop to rs))
-      ∙ ap (λ x. filter t (map hop_of (take from rs)) ++ x) (filter-append t (map hop_of mid) (map hop_of (drop to rs)))
+  kept_parts t = ap (λ x. filter t (map hop_of x)) parts ∙ simp (map-append, filter-append)
 
   -- the hops of other links are those before and after the run
   pub others_left : filter (λ (h : Hop). not (eqb h.link l)) (map hop_of rs) ≡ map hop_of (take from rs ++ drop to rs)
@@ -118,9 +116,9 @@ module _ (rs : List HopRow) (l from to : ℕ) (up : ascending (by_key place_befo
       let alike : (r : HopRow) → r.hop.link ≡ l → not (eqb r.hop.link l) ≡ false = λ r e. ap not (eq-eqb r.hop.link l e) in
       kept_parts t
       ∙ rw (
-        kept_all hop_of t (take from rs) (All-weaker (λ (r : HopRow). ¬ (r.hop.link ≡ l)) (λ (r : HopRow). t (hop_of r) ≡ true) other (take from rs) front_others),
-        kept_none hop_of t mid (All-weaker (λ (r : HopRow). r.hop.link ≡ l) (λ (r : HopRow). t (hop_of r) ≡ false) alike mid mid_alike),
-        kept_all hop_of t (drop to rs) (All-weaker (λ (r : HopRow). ¬ (r.hop.link ≡ l)) (λ (r : HopRow). t (hop_of r) ≡ true) other (drop to rs) back_others),
+        kept_all hop_of t (take from rs) (All-weaker _ _ other _ front_others),
+        kept_none hop_of t mid (All-weaker _ _ alike _ mid_alike),
+        kept_all hop_of t (drop to rs) (All-weaker _ _ other _ back_others),
       )
       (sym (map-append hop_of (take from rs) (drop to rs)))
 
@@ -132,9 +130,9 @@ module _ (rs : List HopRow) (l from to : ℕ) (up : ascending (by_key place_befo
       let alike : (r : HopRow) → r.hop.link ≡ l → t (hop_of r) ≡ true = λ r e. eq-eqb r.hop.link l e in
       kept_parts t
       ∙ rw (
-        kept_none hop_of t (take from rs) (All-weaker (λ (r : HopRow). ¬ (r.hop.link ≡ l)) (λ (r : HopRow). t (hop_of r) ≡ false) other (take from rs) front_others),
-        kept_all hop_of t mid (All-weaker (λ (r : HopRow). r.hop.link ≡ l) (λ (r : HopRow). t (hop_of r) ≡ true) alike mid mid_alike),
-        kept_none hop_of t (drop to rs) (All-weaker (λ (r : HopRow). ¬ (r.hop.link ≡ l)) (λ (r : HopRow). t (hop_of r) ≡ false) other (drop to rs) back_others),
+        kept_none hop_of t (take from rs) (All-weaker _ _ other _ front_others),
+        kept_all hop_of t mid (All-weaker _ _ alike _ mid_alike),
+        kept_none hop_of t (drop to rs) (All-weaker _ _ other _ back_others),
       )
       (append-nil (map hop_of mid))
 
@@ -182,16 +180,12 @@ pub link_taken : (b d : Book) (l place from to : ℕ) (x y : Bool)
 link_taken b d l place from to x y found st re links hops ports down =
     let (room-l, new-l) = run_gone number_before link_key place (place + 1) b.links d.links x links (omega arith) (omega (arith, found.0)) in
     let (room-h, new-h) = run_gone place_before hop_key from to b.hops d.hops y hops re.in_order re.within in
-    let known : has_link (records b) l ≡ true = link_known (rows b.links) place found.0 found.1 in
+    let known : has_link (records b) l ≡ true
+    = some_under (λ (r : LinkRow). r.link) link_key l (λ (m : VirtualLink). eqb m.number l) (λ y e. eq-eqb y.link.number l e) (rows b.links)
+    (get_or (rows b.links) place no_link) (getD_in (rows b.links) place no_link found.0) (found.1 no_link) in
     let links_left = ap (map (λ (r : LinkRow). r.link)) (new-l ∙ rw (add-one place)) ∙ sym (one_link_left l (rows b.links) place b.links.ascends found.0 found.1) in
     let hops_left = ap (map hop_of) new-h ∙ sym (others_left (rows b.hops) l from to b.hops.ascends st re) in
     rw known (refl, same_records (rw ports) links_left hops_left, down, same_places (rw ports) room-l room-h)
-  where
-    link_known : (rs : List LinkRow) (i : ℕ) → i < length rs → ((d : LinkRow) → link_key (get_or rs i d) ≡ l)
-        → some (λ (m : VirtualLink). eqb m.number l) (map (λ (r : LinkRow). r.link) rs) ≡ true
-    link_known [] i lt e = absurd (omega arith)
-    link_known (z ∷ zs) zero lt e = or_left (eqb z.link.number l) _ (eq-eqb z.link.number l (e z))
-    link_known (z ∷ zs) (suc i) lt e = or_right (eqb z.link.number l) _ (link_known zs i (omega arith) e)
 
 -- an unknown link leaves the book as it was
 pub link_unknown : (b : Book) (l i : ℕ) → Found number_before link_key (rows b.links) l (Err i)

@@ -4,7 +4,7 @@ use lib.ListN.{length-map}
 use Rattle.std.specs.Option.{SomeIff}
 use Rattle.std.specs.List.{AllByRecursion}
 use Rattle.std.proofs.lemmas.Bool.Decides.{nat_tests}
-use Rattle.std.proofs.lemmas.Bool.{and_parts, cases_Bool, eqb-true, eq-eqb, ne_eqb, le-ltb, not-false}
+use Rattle.std.proofs.lemmas.Bool.{eqb-true, eq-eqb, ne_eqb, le-ltb, not-false}
 use Rattle.std.proofs.ByRecursion.{All-take, All-drop}
 use Rattle.definitions.specs.declared.network.Port.{Port}
 use Rattle.definitions.specs.declared.network.Hop.{Hop}
@@ -36,10 +36,7 @@ first_is : {X : Type 0} (test : X → Bool) (none : X) (xs : List X) (x : X) →
     → ((y : X) → In y xs → test y ≡ true → y ≡ x) → first_of test none xs ≡ x
 first_is test none [] x i t only = absurd i
 first_is test none (y ∷ ys) x (inl e) t only = rw (← e) (rw t)
-first_is test none (y ∷ ys) x (inr i) t only = elim (cases_Bool (test y)) [
-  | inl s ↦ rw s (only y (inl refl) s)
-  | inr s ↦ rw s (first_is test none ys x i t (λ z j. only z (inr j)))
-]
+first_is test none (y ∷ ys) x (inr i) t only = grind (arith, only y (inl refl), first_is test none ys x i t (λ z j. only z (inr j)))
 
 -- rows in order of their keys have one row under each
 row_is : {R K : Type 0} (lt : K → K → Bool) (key : R → K) → ((k : K) → lt k k ≡ false) → (test : R → Bool) (k : K)
