@@ -72,7 +72,7 @@ module _ (rs : List HopRow) (l from to : ℕ) (up : ascending (by_key place_befo
   mid = take (to - from) (drop from rs)
 
   front_others : AllByRecursion (λ (r : HopRow). ¬ (r.hop.link ≡ l)) (take from rs)
-  front_others = All-weaker (λ r. place_before (hop_key r) (l, 0) ≡ true) (λ r. ¬ (r.hop.link ≡ l)) (λ r h e. omega (arith, before_start l r h)) (take from rs) st.1
+  front_others = All-weaker _ _ (λ r h e. omega (arith, before_start l r h)) _ st.1
 
   mid_alike : AllByRecursion (λ (r : HopRow). r.hop.link ≡ l) mid
   mid_alike = All-from_get_or (λ (r : HopRow). r.hop.link ≡ l) mid no_row (λ i lt.
@@ -92,13 +92,13 @@ module _ (rs : List HopRow) (l from to : ℕ) (up : ascending (by_key place_befo
   back_others = elim (cases_lt to (length rs)) [
     | inl lt ↦
         let e = drop_more rs to no_row lt in
-        let asc = subst (λ (zs : List HopRow). ascending (by_key place_before hop_key) zs ≡ true) e (without_ascends (by_key place_before hop_key) rs 0 to (omega arith) up) in
-        let late = subst (AllByRecursion (λ (r : HopRow). place_before (hop_key r) (l, 0) ≡ false)) (sym back_is ∙ e) (All-drop (λ (r : HopRow). place_before (hop_key r) (l, 0) ≡ false) (to - from) (drop from rs) st.2) in
+        let asc = rw e at (without_ascends (by_key place_before hop_key) rs 0 to (omega arith) up) in
+        let late = rw (← back_is, e) at (All-drop _ (to - from) (drop from rs) st.2) in
+        let (first, rest) = and_parts _ _ asc in
         let other = re.stops lt no_row in
-        let (first, rest) = and_parts (every (by_key place_before hop_key (get_or rs to no_row)) (drop (to + 1) rs)) (ascending (by_key place_before hop_key) (drop (to + 1) rs)) asc in
         let later = after_start l (get_or rs to no_row) late.0 in
-        subst (AllByRecursion (λ (r : HopRow). ¬ (r.hop.link ≡ l))) (sym e) (other, rises (get_or rs to no_row) (drop (to + 1) rs) (omega arith) first)
-    | inr le ↦ subst (AllByRecursion (λ (r : HopRow). ¬ (r.hop.link ≡ l))) (sym (drop_all to rs le)) tt
+        rw e (other, rises (get_or rs to no_row) (drop (to + 1) rs) (omega arith) first)
+    | inr le ↦ rw (drop_all to rs le) tt
   ]
 
   parts : rs ≡ take from rs ++ (mid ++ drop to rs)
