@@ -1,5 +1,5 @@
 -- Entering a hop.
-use Rattle.std.proofs.Common.{arith, ◌≡◌, ℕ, zero, suc, Bool, true, false, ◌&&◌, eqb, List, [], ◌∷◌, map, take, drop, is_some, Some, None, Ok, Err, Option, sym, refl, ap, ◌∙◌, subst}
+use Rattle.std.proofs.Common.{arith, ◌≡◌, ℕ, zero, suc, Bool, true, false, ◌&&◌, eqb, List, [], ◌∷◌, map, take, drop, is_some, Some, None, Ok, Err, Option, sym, refl, ap, ◌∙◌}
 use Rattle.std.proofs.lemmas.Bool.Decides.{nat_tests}
 use Rattle.std.proofs.lemmas.Bool.{eq-eqb, ne_eqb, both_ways}
 use Rattle.definitions.specs.declared.network.Port.{Port}
@@ -57,7 +57,7 @@ has_hop_told b l p = told_by_get (λ (x : HopRow). x.hop) hop_key (l, p) (λ (h 
 -- the row under a number is the port that is found
 pub port_found : (b : Book) (n : ℕ) (o : Option PortRow) → Getting port_key (rows b.ports) n o → (row : PortRow) → o ≡ Some row → find_port (records b).ports n ≡ row.port
 port_found b n o got row e =
-    let (i, at) : Getting port_key (rows b.ports) n (Some row) = subst (Getting port_key (rows b.ports) n) e got in
+    let (i, at) = rw e at got in
     ap (find_port (records b).ports) (sym at)
     ∙ find_in (λ (p : Port). p.number) _ (records b).ports (sym (ports_ascend (rows b.ports)) ∙ b.ports.ascends) row.port (in_map (λ (x : PortRow). x.port) (rows b.ports) row i)
 

@@ -1,5 +1,5 @@
 -- Walking over the hops of a link.
-use Rattle.std.proofs.Common.{◌≡◌, ℕ, ◌+◌, ◌-◌, ◌<◌, ◌≤◌, Bool, ◌||◌, List, [], ◌∷◌, length, get_or, drop, refl, ap, ◌∙◌, subst, arith}
+use Rattle.std.proofs.Common.{◌≡◌, ℕ, ◌+◌, ◌-◌, ◌<◌, ◌≤◌, Bool, ◌||◌, List, [], ◌∷◌, length, get_or, drop, refl, ap, ◌∙◌, arith}
 use Rattle.std.specs.List.{AllWithin, HoldsAt, list_any}
 use Rattle.std.specs.Option.{is_none}
 use Rattle.std.proofs.lemmas.List.{get_or-drop, length-drop}
@@ -9,6 +9,12 @@ use Rattle.definitions.specs.Entries.{begins}
 use Rattle.working_out.specs.declared.rows.HopRow.{HopRow}
 use Rattle.book.specs.LinkRuns.{RunEnd}
 
+abbrev pub same_link : ℕ → HopRow → Type 0
+same_link l r = r.hop.link ≡ l
+
+abbrev pub other_link : ℕ → HopRow → Type 0
+other_link l r = ¬ (r.hop.link ≡ l)
+
 module _ (rs : List HopRow) (l from : ℕ) (le : from ≤ length rs) where
   -- what stands so many places after the start
   further : (k : ℕ) (d : HopRow) → from ≤ k → get_or (drop from rs) (k - from) d ≡ get_or rs k d
@@ -17,21 +23,21 @@ module _ (rs : List HopRow) (l from : ℕ) (le : from ≤ length rs) where
       get_or-drop from rs (k - from) d ∙ ap (λ n. get_or rs n d) e
 
   -- the first row of another link ends the run
-  pub run_stops : (i : ℕ) → (i < length (drop from rs)) × HoldsAt (λ (r : HopRow). ¬ (r.hop.link ≡ l)) (drop from rs) i × AllWithin (λ (r : HopRow). r.hop.link ≡ l) (drop from rs) 0 i
+  pub run_stops : (i : ℕ) → (i < length (drop from rs)) × HoldsAt (other_link l) (drop from rs) i × AllWithin (same_link l) (drop from rs) 0 i
       → RunEnd rs l from (from + i)
   run_stops i (lt, other, same) = record {
     in_order = omega arith;
     within = omega (arith, length-drop from rs);
-    alike = λ k d a b. subst (λ (r : HopRow). r.hop.link ≡ l) (further k d a) (same (k - from) d (omega arith) (omega arith));
+    alike = λ k d a b. rw (← further k d a) (same (k - from) d (omega arith) (omega arith));
     stops = λ _ d e. other d (ap (λ (r : HopRow). r.hop.link) (get_or-drop from rs i d) ∙ e);
   }
 
   -- where there is none, it goes to the end
-  pub run_all : AllWithin (λ (r : HopRow). r.hop.link ≡ l) (drop from rs) 0 (length (drop from rs)) → RunEnd rs l from (length rs)
+  pub run_all : AllWithin (same_link l) (drop from rs) 0 (length (drop from rs)) → RunEnd rs l from (length rs)
   run_all same = record {
     in_order = le;
     within = omega arith;
-    alike = λ k d a b. subst (λ (r : HopRow). r.hop.link ≡ l) (further k d a) (same (k - from) d (omega arith) (omega (arith, length-drop from rs)));
+    alike = λ k d a b. rw (← further k d a) (same (k - from) d (omega arith) (omega (arith, length-drop from rs)));
     stops = λ lt. absurd (omega arith);
   }
 

@@ -1,7 +1,6 @@
 -- What the rows of a book show, and what it tells from them.
-use Rattle.std.proofs.Common.{◌≡◌, ℕ, ◌+◌, ◌-◌, ◌^◌, ◌<◌, Bool, true, false, ◌&&◌, eqb, List, [], ◌∷◌, map, length, take, drop, Some, None, Ok, Err, Option, unwrap_or, sym, refl, ap, ◌∙◌, subst, inl, inr, arith}
+use Rattle.std.proofs.Common.{◌≡◌, ℕ, ◌+◌, ◌-◌, ◌^◌, ◌<◌, Bool, true, false, ◌&&◌, eqb, List, [], ◌∷◌, map, length, take, drop, Some, None, Ok, Err, Option, unwrap_or, sym, refl, ap, ◌∙◌, inl, inr, arith}
 use lib.ListN.{length-map}
-use Rattle.std.specs.Option.{SomeIff}
 use Rattle.std.specs.List.{AllByRecursion}
 use Rattle.std.proofs.lemmas.Bool.Decides.{nat_tests}
 use Rattle.std.proofs.lemmas.Bool.{eqb-true, eq-eqb, ne_eqb, le-ltb, not-false}
@@ -99,7 +98,7 @@ module _ (b : Book) (F : Figures) (s : Shows b F) where
 -- the backlog under a number
 pub backlog_is : (t : Ports) (n : ℕ) (o : Option PortRow) → Getting port_key (rows t) n o → (row : PortRow) → o ≡ Some row → (port_row (rows t) n).backlog ≡ row.backlog
 backlog_is t n o got row e =
-    let (i, at) : Getting port_key (rows t) n (Some row) = subst (Getting port_key (rows t) n) e got in
+    let (i, at) = rw e at got in
     ap (λ (r : PortRow). r.backlog) (port_row_is (rows t) t.ascends row i n at)
 
 no_row : (xs : List PortRow) (n : ℕ) → Getting port_key xs n None → (port_row xs n).backlog ≡ 0
@@ -107,7 +106,7 @@ no_row [] n none = refl
 no_row (x ∷ xs) n none = rw (ne_eqb x.port.number n (none x (inl refl))) (no_row xs n (λ y i. none y (inr i)))
 
 pub no_backlog : (t : Ports) (n : ℕ) (o : Option PortRow) → Getting port_key (rows t) n o → o ≡ None → (port_row (rows t) n).backlog ≡ 0
-no_backlog t n o got e = no_row (rows t) n (subst (Getting port_key (rows t) n) e got)
+no_backlog t n o got e = no_row (rows t) n (rw e at got)
 
 -- a question about a link that meets neither of the first grounds
 pub link_is_known : (b : Book) (l : ℕ) → None ≡ link_ground b l → (b.standing ≡ true) × (has_link (records b) l ≡ true)
@@ -119,7 +118,7 @@ module _ (b : Book) (up : b.standing ≡ true) (p : ℕ) (o : Option PortRow) (g
   -- of a port
   pub port_is_told : (row : PortRow) → o ≡ Some row → told_port b p ≡ Ok (row.backlog, row.depth)
   port_is_told row e =
-      let at : Getting port_key (rows b.ports) p (Some row) = subst (Getting port_key (rows b.ports) p) e got in
+      let at = rw e at got in
       rw (up, sym (has_port_told b p o got), e, port_row_is (rows b.ports) b.ports.ascends row at.0 p at.1)
 
   pub port_is_unknown : o ≡ None → told_port b p ≡ Err PortUnknown
@@ -150,11 +149,6 @@ hop_is_told b up l link p at port row hop z is =
 largest_over : {X Y : Type 0} (f : Y → ℕ) (g : X → Y) (k : X → ℕ) (xs : List X) → AllByRecursion (λ x. f (g x) ≡ k x) xs → largest f (map g xs) ≡ largest k xs
 largest_over f g k [] a = refl
 largest_over f g k (x ∷ xs) a = rw (a.0, largest_over f g k xs a.1)
-
--- a checked sum tells the figure
-pub checked_told : (n : ℕ) (o : Option ℕ) → SomeIff o (n < 2 ^ 64) n → Told n o
-checked_told n (Some w) h = h.1
-checked_told n None h = omega arith
 
 -- what 64 bits hold of a figure
 pub capped_told : (n : ℕ) (o : Option ℕ) → Told n o → unwrap_or o (2 ^ 64 - 1) < 2 ^ 64 → unwrap_or o (2 ^ 64 - 1) ≡ capped n
