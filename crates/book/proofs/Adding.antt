@@ -78,17 +78,17 @@ entry_adds e fits b d r h =
     (entry_ground (places b) (records b) e) (entered (records b) e) r
     (λ s held at. (rw (at, held), rw held)) h
 
-pub port_adds : (p : Port) → p.number ≤ 255 → (b d : Book) (r : Result (Unit {0}) Refusal)
+pub port_entry_adds : (p : Port) → p.number ≤ 255 → (b d : Book) (r : Result (Unit {0}) Refusal)
     → Doing (entry_ground (places b) (records b) (port_entry p)) (entered (records b) (port_entry p)) b d r → Adds (enter (port_entry p)) (answer_of r) b d
-port_adds p = entry_adds (port_entry p)
+port_entry_adds p = entry_adds (port_entry p)
 
-pub link_adds : (l : VirtualLink) → l.number ≤ 65535 → (b d : Book) (r : Result (Unit {0}) Refusal)
+pub link_entry_adds : (l : VirtualLink) → l.number ≤ 65535 → (b d : Book) (r : Result (Unit {0}) Refusal)
     → Doing (entry_ground (places b) (records b) (link_entry l)) (entered (records b) (link_entry l)) b d r → Adds (enter (link_entry l)) (answer_of r) b d
-link_adds l = entry_adds (link_entry l)
+link_entry_adds l = entry_adds (link_entry l)
 
-pub hop_adds : (h : Hop) → (b d : Book) (r : Result (Unit {0}) Refusal)
+pub hop_entry_adds : (h : Hop) → (b d : Book) (r : Result (Unit {0}) Refusal)
     → Doing (entry_ground (places b) (records b) (hop_entry h)) (entered (records b) (hop_entry h)) b d r → Adds (enter (hop_entry h)) (answer_of r) b d
-hop_adds h = entry_adds (hop_entry h) tt
+hop_entry_adds h = entry_adds (hop_entry h) tt
 
 -- a removal
 pub removal_adds : (l : ℕ) → (b d : Book) (r : Result (Unit {0}) Refusal)

@@ -47,7 +47,7 @@ impl<'a> Book<'a> {
     }
 
     // Enters a port.
-    #[tactic(auto, using(crate::proofs::Adding::port_adds))]
+    #[tactic(auto, using(crate::proofs::Adding::port_entry_adds))]
     pub fn enter_port(&mut self, port: Port) -> Result<(), Refusal>
         ensures outcome { Doing (entry_ground (places self.old) (records self.old) (port_entry port)) (entered (records self.old) (port_entry port)) self.old self.new result }
         ensures run { Adds (enter (port_entry port)) (answer_of result) self.old self.new }
@@ -75,7 +75,7 @@ impl<'a> Book<'a> {
     }
 
     // Enters a virtual link.
-    #[tactic(auto, using(crate::proofs::Adding::link_adds))]
+    #[tactic(auto, using(crate::proofs::Adding::link_entry_adds))]
     pub fn enter_link(&mut self, link: VirtualLink) -> Result<(), Refusal>
         ensures outcome { Doing (entry_ground (places self.old) (records self.old) (link_entry link)) (entered (records self.old) (link_entry link)) self.old self.new result }
         ensures run { Adds (enter (link_entry link)) (answer_of result) self.old self.new }
@@ -104,7 +104,7 @@ impl<'a> Book<'a> {
     }
 
     // Enters a hop.
-    #[tactic(auto, using(crate::proofs::Adding::hop_adds))]
+    #[tactic(auto, using(crate::proofs::Adding::hop_entry_adds))]
     pub fn enter_hop(&mut self, hop: Hop) -> Result<(), Refusal>
         ensures outcome { Doing (entry_ground (places self.old) (records self.old) (hop_entry hop)) (entered (records self.old) (hop_entry hop)) self.old self.new result }
         ensures run { Adds (enter (hop_entry hop)) (answer_of result) self.old self.new }

@@ -4,6 +4,7 @@ use Rattle.std.proofs.lemmas.Iterator.{IsFirst-from_position, YieldsList-from_sl
 use Rattle.book.proofs.Runs.{same_link, other_link, run_stops, run_all}
 use Rattle.book.proofs.link_runs.run_end.Goals as goal
 
+-- with the lemmas of Runs named on the function no proof is found: those of iterators take what the closure tests
 pub returns-in-Some : goal.returns-in-Some
 returns-in-Some c =
     run_stops c.args.rows.now c.args.link c.args.from c.requires c.in-Some.count

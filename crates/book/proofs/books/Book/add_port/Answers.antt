@@ -2,6 +2,7 @@ use Rattle.std.proofs.Common.{sym, refl}
 use Rattle.book.proofs.Entering.{port_added, port_full}
 use Rattle.book.proofs.books.Book.add_port.Goals as goal
 
+-- with these lemmas named on the function grind stops at its limit of instances
 pub returns-in-Err-Full : goal.returns-in-Err-Full
 returns-in-Err-Full c =
     port_full c.args.self.now _ c.args.port (sym c.if-not-has_known_rate.ensures) refl refl (rw (c.in-Err-Full.field-0-is, c.new.ensures) at c.in-Err-Full.ensures.inserts) refl

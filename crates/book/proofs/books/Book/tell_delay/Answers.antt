@@ -3,6 +3,7 @@ use Rattle.book.proofs.Hops.{fit_of}
 use Rattle.book.proofs.Showing.{link_is_known, delay_is_told}
 use Rattle.book.proofs.books.Book.tell_delay.Goals as goal
 
+-- with the lemmas named on the function the search stops at a limit
 pub returns : goal.returns
 returns c =
     let (up, link) = link_is_known c.args.self.now c.args.link (fit_of _ c.in_ok-may_ask_of.ensures) in
