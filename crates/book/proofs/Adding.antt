@@ -1,14 +1,16 @@
 -- What a call did is a call more in every list of calls that led to the book.
-use Rattle.std.proofs.Common.{◌≡◌, ℕ, zero, suc, List, [], ◌∷◌, ◌++◌, map, Some, None, Ok, Option, Result, MatchOption, sym, refl, ap, ◌∙◌, subst, arith}
-use Rattle.std.specs.List.{AllByRecursion, slice_get}
+use Rattle.std.proofs.Common.{◌≡◌, ℕ, ◌≤◌, List, map, length, Some, None, Ok, Option, Result, MatchOption, sym, refl, ap, ◌∙◌}
+use Rattle.std.specs.List.{slice_get}
+use Rattle.std.specs.Option.{option_map}
+use Rattle.std.proofs.lemmas.Option.{slice_get-map}
 use Rattle.definitions.specs.declared.network.Port.{Port}
 use Rattle.definitions.specs.declared.network.VirtualLink.{VirtualLink}
 use Rattle.definitions.specs.declared.network.Hop.{Hop}
 use Rattle.definitions.specs.declared.refusals.Refusal.{Refusal}
 use Rattle.definitions.specs.Network.{Records}
-use Rattle.definitions.specs.Entries.{Places, Entry, entry_ground, entered, removal_ground, removed, no_records}
-use Rattle.definitions.specs.Figures.{Figures, Settled, depth, earliest_at, latest_at}
-use Rattle.definitions.specs.Calls.{State, Call, Answer, done, enter, remove_link, clear, opened, Fits, changed, DoesOrRefuses, Does, Runs}
+use Rattle.definitions.specs.Entries.{Entry, port_entry, link_entry, hop_entry, entry_ground, entered, removal_ground, removed, no_records}
+use Rattle.definitions.specs.Figures.{Figures}
+use Rattle.definitions.specs.Calls.{State, Call, Answer, done, enter, remove_link, clear, count_ports, count_links, count_hops, port_at, link_at, hop_at, count, port_is, link_is, hop_is, opened, Fits, changed, DoesOrRefuses, Does}
 use Rattle.register.specs.Tables.{rows}
 use Rattle.theory.proofs.SoundRuns.{every_run_is_sound, runs_push}
 use Rattle.working_out.specs.declared.rows.PortRow.{PortRow}
@@ -18,24 +20,17 @@ use Rattle.book.specs.declared.books.Book.{Book}
 use Rattle.book.specs.Books.{records, places, Same, Doing, Shows, Made, answer_of, Adds}
 
 -- records that are the same list by list
-pub same_records : (ps qs : List Port) (ls ms : List VirtualLink) (hs ks : List Hop) → ps ≡ qs → ls ≡ ms → hs ≡ ks
+pub same_records : {ps qs : List Port} {ls ms : List VirtualLink} {hs ks : List Hop} → ps ≡ qs → ls ≡ ms → hs ≡ ks
     → ◌≡◌ {A = Records} record { ports = ps; links = ls; hops = hs } record { ports = qs; links = ms; hops = ks }
-same_records ps qs ls ms hs ks a b c =
-    ap (λ x. record { ports = x; links = ls; hops = hs }) a ∙ ap (λ x. record { ports = qs; links = x; hops = hs }) b
-    ∙ ap (λ x. record { ports = qs; links = ms; hops = x }) c
+same_records a b c = cc
 
 -- a book that is as it was has the same records
 same_holds : (b d : Book) → Same b d → records d ≡ records b
-same_holds b d s = same_records _ _ _ _ _ _ (ap (map (λ (r : PortRow). r.port)) s.ports) (ap (map (λ (r : LinkRow). r.link)) s.links) (ap (map (λ (r : HopRow). r.hop)) s.hops)
+same_holds b d s = rw (s.ports, s.links, s.hops)
 
 -- and shows the same figures
 same_shows : (b d : Book) (F : Figures) → Same b d → Shows b F → Shows d F
-same_shows b d F s h = record {
-  ports = subst (λ (r : Records). AllByRecursion (λ (x : PortRow). (x.backlog ≡ F.backlog x.port.number) × (x.depth ≡ depth r F x.port.number)) (rows d.ports))
-      (sym (same_holds b d s))
-      (subst (AllByRecursion (λ (x : PortRow). (x.backlog ≡ F.backlog x.port.number) × (x.depth ≡ depth (records b) F x.port.number))) (sym s.ports) h.ports);
-  hops = subst (AllByRecursion (λ (x : HopRow). (x.earliest ≡ earliest_at F x.hop) × (x.latest ≡ latest_at F x.hop))) (sym s.hops) h.hops;
-}
+same_shows b d F s h = record { ports = simp (s.ports, s.links, s.hops) h.ports; hops = simp s.hops h.hops }
 
 -- a call that does what it says or refuses, on any book that calls led to
 pub adds : (c : Call) → Fits c → (g : State → Option Refusal) (after : State → Records)
@@ -50,14 +45,13 @@ adds c fits g after does b d None left r same h cs as' m =
     let (told, recs, down, tabs) = h in
     let t = changed s (after s) in
     let a = answer_of r in
-    let step : DoesOrRefuses (g s) s t a t = subst (λ (o : Option Refusal). DoesOrRefuses o s t a t) e (ap answer_of told, refl) in
+    let step : DoesOrRefuses (g s) s t a t = rw (← e) (ap answer_of told, refl) in
     record {
       state = t;
-      runs = subst (λ (pl : Places). Runs (opened pl) (cs ++ (c ∷ [])) (as' ++ (a ∷ [])) t) (sym tabs)
-          (runs_push (opened (places b)) cs as' s c a t m.runs (record { fits = fits; does = does s a t step }));
+      runs = rw tabs (runs_push (opened (places b)) cs as' s c a t m.runs (record { fits = fits; does = does s a t step }));
       holds = recs ∙ l;
       stands = down;
-      shows = λ v q. let z : ◌≡◌ {A = ℕ} 0 1 = cc in absurd (omega arith);
+      shows = λ v q. absurd (cc);
     }
 adds c fits g after does b d (Some f) left r same h cs as' m =
     let s = m.state in
@@ -65,25 +59,36 @@ adds c fits g after does b d (Some f) left r same h cs as' m =
     let (e, l) = same s m.holds (sym held) in
     let (told, as_before) = h in
     let a = answer_of r in
-    let step : DoesOrRefuses (g s) s (changed s (after s)) a s = subst (λ (o : Option Refusal). DoesOrRefuses o s (changed s (after s)) a s) e (ap answer_of told, refl) in
+    let step : DoesOrRefuses (g s) s (changed s (after s)) a s = rw (← e) (ap answer_of told, refl) in
     record {
       state = s;
-      runs = subst (λ (pl : Places). Runs (opened pl) (cs ++ (c ∷ [])) (as' ++ (a ∷ [])) s) (sym as_before.tables)
-          (runs_push (opened (places b)) cs as' s c a s m.runs (record { fits = fits; does = does s a s step }));
+      runs = rw as_before.tables (runs_push (opened (places b)) cs as' s c a s m.runs (record { fits = fits; does = does s a s step }));
       holds = same_holds b d as_before ∙ m.holds;
       stands = as_before.standing ∙ m.stands;
       shows = λ v q.
           let (F, k, w) = m.shows v q in
-          (F, subst (λ (x : Records). Settled x v.method.worth F) (sym (same_holds b d as_before)) k, same_shows b d F as_before w);
+          (F, rw (same_holds b d as_before) k, same_shows b d F as_before w);
     }
 
 -- an entry
-pub entry_adds : (e : Entry) → Fits (enter e) → (b d : Book) (r : Result (Unit {0}) Refusal)
+entry_adds : (e : Entry) → Fits (enter e) → (b d : Book) (r : Result (Unit {0}) Refusal)
     → Doing (entry_ground (places b) (records b) e) (entered (records b) e) b d r → Adds (enter e) (answer_of r) b d
 entry_adds e fits b d r h =
     adds (enter e) fits (λ s. entry_ground s.places s.records e) (λ s. entered s.records e) (λ s a t k. k) b d
     (entry_ground (places b) (records b) e) (entered (records b) e) r
-    (λ s held at. (ap (λ x. entry_ground x (records b) e) at ∙ ap (λ x. entry_ground s.places x e) held, ap (λ x. entered x e) held)) h
+    (λ s held at. (rw (at, held), rw held)) h
+
+pub port_entry_adds : (p : Port) → p.number ≤ 255 → (b d : Book) (r : Result (Unit {0}) Refusal)
+    → Doing (entry_ground (places b) (records b) (port_entry p)) (entered (records b) (port_entry p)) b d r → Adds (enter (port_entry p)) (answer_of r) b d
+port_entry_adds p = entry_adds (port_entry p)
+
+pub link_entry_adds : (l : VirtualLink) → l.number ≤ 65535 → (b d : Book) (r : Result (Unit {0}) Refusal)
+    → Doing (entry_ground (places b) (records b) (link_entry l)) (entered (records b) (link_entry l)) b d r → Adds (enter (link_entry l)) (answer_of r) b d
+link_entry_adds l = entry_adds (link_entry l)
+
+pub hop_entry_adds : (h : Hop) → (b d : Book) (r : Result (Unit {0}) Refusal)
+    → Doing (entry_ground (places b) (records b) (hop_entry h)) (entered (records b) (hop_entry h)) b d r → Adds (enter (hop_entry h)) (answer_of r) b d
+hop_entry_adds h = entry_adds (hop_entry h) tt
 
 -- a removal
 pub removal_adds : (l : ℕ) → (b d : Book) (r : Result (Unit {0}) Refusal)
@@ -91,7 +96,7 @@ pub removal_adds : (l : ℕ) → (b d : Book) (r : Result (Unit {0}) Refusal)
 removal_adds l b d r h =
     adds (remove_link l) tt (λ s. removal_ground s.records l) (λ s. removed s.records l) (λ s a t k. k) b d
     (removal_ground (records b) l) (removed (records b) l) r
-    (λ s held at. (ap (λ x. removal_ground x l) held, ap (λ x. removed x l) held)) h
+    (λ s held at. (rw (← held), rw (← held))) h
 
 -- clearing
 pub clearing_adds : (b d : Book) → Doing None no_records b d (Ok tt) → Adds clear done b d
@@ -110,21 +115,29 @@ question_adds c fits a b does cs as' m = record {
 }
 
 -- one that looks at the records only
-pub asking_adds : (c : Call) → Fits c → (a : Answer) (b : Book) → ((s : State) → records b ≡ s.records → Does s c a s) → Adds c a b b
-asking_adds c fits a b does = question_adds c fits a b (λ cs as' m. does m.state m.holds)
+asks : {X : Type 0} (c : Call) → Fits c → (answer : X → Answer) (told : Records → X) → ((s : State) (a : Answer) → a ≡ answer (told s.records) → Does s c a s)
+    → (b : Book) (x : X) → x ≡ told (records b) → Adds c (answer x) b b
+asks c fits answer told does b x is = question_adds c fits (answer x) b (λ cs as' m. does m.state (answer x) (ap answer (is ∙ ap told m.holds)))
+
+pub port_count_adds : (b : Book) (n : ℕ) → n ≡ length (records b).ports → Adds count_ports (count n) b b
+port_count_adds = asks count_ports tt count (λ r. length r.ports) (λ s a e. (e, refl))
+
+pub link_count_adds : (b : Book) (n : ℕ) → n ≡ length (records b).links → Adds count_links (count n) b b
+link_count_adds = asks count_links tt count (λ r. length r.links) (λ s a e. (e, refl))
+
+pub hop_count_adds : (b : Book) (n : ℕ) → n ≡ length (records b).hops → Adds count_hops (count n) b b
+hop_count_adds = asks count_hops tt count (λ r. length r.hops) (λ s a e. (e, refl))
 
 -- the record of the row at a place
-nth_map_some : {R S : Type 0} (f : R → S) (xs : List R) (i : ℕ) (x : R) → Some x ≡ slice_get xs i → Some (f x) ≡ slice_get (map f xs) i
-nth_map_some f [] i x e = let z : ◌≡◌ {A = ℕ} 0 1 = cc in absurd (omega arith)
-nth_map_some f (y ∷ ys) zero x e = let q : x ≡ y = cc in ap (λ z. Some (f z)) q
-nth_map_some f (y ∷ ys) (suc i) x e = nth_map_some f ys i x e
+at_place : {R S : Type 0} (f : R → S) (xs : List R) (i : ℕ) (o : Option R) → o ≡ slice_get xs i → (r : Option S) → MatchOption o (r ≡ None) (λ x. r ≡ Some (f x)) → r ≡ slice_get (map f xs) i
+at_place f xs i (Some x) e r is = is ∙ ap (option_map f) e ∙ sym (slice_get-map f xs i)
+at_place f xs i None e r is = is ∙ ap (option_map f) e ∙ sym (slice_get-map f xs i)
 
-nth_map_none : {R S : Type 0} (f : R → S) (xs : List R) (i : ℕ) → None ≡ slice_get xs i → None ≡ slice_get (map f xs) i
-nth_map_none f [] i e = refl
-nth_map_none f (y ∷ ys) zero e = let z : ◌≡◌ {A = ℕ} 0 1 = cc in absurd (omega arith)
-nth_map_none f (y ∷ ys) (suc i) e = nth_map_none f ys i e
+pub port_at_adds : (b : Book) (i : ℕ) (o : Option PortRow) → o ≡ slice_get (rows b.ports) i → (r : Option Port) → MatchOption o (r ≡ None) (λ x. r ≡ Some x.port) → Adds (port_at i) (port_is r) b b
+port_at_adds b i o e r is = asks (port_at i) tt port_is (λ n. slice_get n.ports i) (λ s a e. (e, refl)) b r (at_place (λ (x : PortRow). x.port) (rows b.ports) i o e r is)
 
-pub nth_mapped : {R S : Type 0} (f : R → S) (xs : List R) (i : ℕ) (o : Option R) → o ≡ slice_get xs i → (r : Option S) → MatchOption o (r ≡ None) (λ x. r ≡ Some (f x))
-    → r ≡ slice_get (map f xs) i
-nth_mapped f xs i (Some x) e r is = is ∙ nth_map_some f xs i x e
-nth_mapped f xs i None e r is = is ∙ nth_map_none f xs i e
+pub link_at_adds : (b : Book) (i : ℕ) (o : Option LinkRow) → o ≡ slice_get (rows b.links) i → (r : Option VirtualLink) → MatchOption o (r ≡ None) (λ x. r ≡ Some x.link) → Adds (link_at i) (link_is r) b b
+link_at_adds b i o e r is = asks (link_at i) tt link_is (λ n. slice_get n.links i) (λ s a e. (e, refl)) b r (at_place (λ (x : LinkRow). x.link) (rows b.links) i o e r is)
+
+pub hop_at_adds : (b : Book) (i : ℕ) (o : Option HopRow) → o ≡ slice_get (rows b.hops) i → (r : Option Hop) → MatchOption o (r ≡ None) (λ x. r ≡ Some x.hop) → Adds (hop_at i) (hop_is r) b b
+hop_at_adds b i o e r is = asks (hop_at i) tt hop_is (λ n. slice_get n.hops i) (λ s a e. (e, refl)) b r (at_place (λ (x : HopRow). x.hop) (rows b.hops) i o e r is)

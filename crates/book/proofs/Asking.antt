@@ -1,5 +1,5 @@
 -- What a book tells while figures stand is what its calls answer, and what is promised of it.
-use Rattle.std.proofs.Common.{◌≡◌, ℕ, ◌+◌, ◌≤◌, Bool, true, false, not, ◌&&◌, eqb, List, [], ◌∷◌, drop, is_some, Some, None, Ok, Err, Option, Result, sym, refl, ap, ◌∙◌, subst, inl, inr, arith}
+use Rattle.std.proofs.Common.{◌≡◌, ℕ, ◌+◌, ◌≤◌, true, false, not, ◌&&◌, eqb, List, [], ◌∷◌, drop, is_some, Some, None, Ok, Err, Option, Result, sym, refl, ap, ◌∙◌, subst, inl, inr, arith}
 use native.Mathlib.Decide.{dec_le}
 use Rattle.std.proofs.lemmas.Bool.{and_parts, eqb-true, not-false}
 use Rattle.definitions.specs.declared.network.Port.{Port}
@@ -46,17 +46,16 @@ pub record Stands (b : Book) (v : Served) : Type 0 where
 pub standing_now : (cs : List Call) (as' : List Answer) (b : Book) (m : Made cs as' b) (v : Served) → m.state.served ≡ Some v → Stands b v
 standing_now cs as' b m v e =
     let (F, k, w) = m.shows v e in
-    let back = sym m.holds in
-    let laws = subst (λ (r : Records). FiguresOf r v.method.worth F → NoFrameLeavesLater r F × NoPortHoldsMore r F × ForwardSucceedsNoLarger r F v.places) back
+    let (no_later, no_more, by_forward) = subst (λ (r : Records). FiguresOf r v.method.worth F → NoFrameLeavesLater r F × NoPortHoldsMore r F × ForwardSucceedsNoLarger r F v.places) (sym m.holds)
     (standing_figures_hold (places b) cs as' m.state m.runs v e F) k.figures in
     record {
       figures = F;
       settled = k;
       shows = w;
-      well_formed = subst WellFormed back (every_run_is_sound (places b) cs as' m.state m.runs).well_formed;
-      no_later = laws.0;
-      no_more = laws.1;
-      by_forward = laws.2;
+      well_formed = rw m.holds (every_run_is_sound (places b) cs as' m.state m.runs).well_formed;
+      no_later = no_later;
+      no_more = no_more;
+      by_forward = by_forward;
     }
 
 -- ## Within 64 bits
@@ -100,7 +99,7 @@ link_there r l t =
 
 -- figures look at the link and the port of a hop only
 departure_there : (F : Figures) (h : Hop) (l p : ℕ) → h.link ≡ l → h.port ≡ p → departure F h ≡ departure F (the_hop l p)
-departure_there F h l p e f = ap (λ m. F.latest m h.port + F.backlog h.port) e ∙ ap (λ q. F.latest l q + F.backlog q) f
+departure_there F h l p e f = rw (e, f)
 
 module _ (b : Book) (up : b.standing ≡ true) (v : Served) (now : Stands b v) where
   abbrev net : Records
@@ -112,9 +111,6 @@ module _ (b : Book) (up : b.standing ≡ true) (v : Served) (now : Stands b v) w
   agree : Agree net (shown b) F
   agree = shown_agree b F now.shows
 
-  standing_met : (gs : List (Bool × Refusal)) → first_met ((not b.standing, NoFigures) ∷ gs) ≡ first_met gs
-  standing_met gs = rw up
-
   depth_at : (p : ℕ) → PortOf net p → (port_row (rows b.ports) p).depth ≡ depth net F p
   depth_at p k = let (x, i, e) = k in subst (λ n. (port_row (rows b.ports) n).depth ≡ depth net F n) e (depth_shown b F now.shows x i)
 
@@ -124,30 +120,33 @@ module _ (b : Book) (up : b.standing ≡ true) (v : Served) (now : Stands b v) w
   pub port_answered : (p : ℕ) → port_answer (told_port b p) ≡ tell_port net p F
   port_answered p =
       let x : ℕ × ℕ = ((shown b).backlog p, (port_row (rows b.ports) p).depth) in
-      ap (λ o. port_answer (told o x)) (standing_met (drop 1 (port_question b p)))
-      ∙ answer_told (λ x. backlog_depth x.0 x.1) port_answer (λ x. refl) (λ e. refl) (first_met (drop 1 (port_question b p))) x
+      simp up (
+      answer_told (λ x. backlog_depth x.0 x.1) port_answer (λ x. refl) (λ e. refl) (first_met (drop 1 (port_question b p))) x
       ∙ or_same (first_met (drop 1 (port_question b p))) _ _ (λ n.
       let k = known_port net now.well_formed (shown b) F agree p (none_met (drop 1 (port_question b p)) n).0 in
       cc (backlog_agrees net (shown b) F agree p k, depth_at p k))
+      )
 
   pub hop_answered : (l p : ℕ) → hop_answer (told_hop b l p) ≡ tell_hop net l p F
   hop_answered l p =
       let x : ℕ × ℕ × ℕ = ((shown b).earliest l p, (shown b).latest l p, capped (departure (shown b) (the_hop l p))) in
-      ap (λ o. hop_answer (told o x)) (standing_met (drop 1 (hop_question b l p)))
-      ∙ answer_told (λ x. earliest_latest_departure x.0 x.1 x.2) hop_answer (λ x. refl) (λ e. refl) (first_met (drop 1 (hop_question b l p))) x
+      simp up (
+      answer_told (λ x. earliest_latest_departure x.0 x.1 x.2) hop_answer (λ x. refl) (λ e. refl) (first_met (drop 1 (hop_question b l p))) x
       ∙ or_same (first_met (drop 1 (hop_question b l p))) _ _ (λ n.
       let (h, i, e, f) = hop_there net l p (none_met (drop 1 (hop_question b l p)) n).1.1.0 in
       ap (earliest_latest_departure ((shown b).earliest l p) ((shown b).latest l p))
       (limit_capped (departure (shown b) (the_hop l p)) (omega (arith, departure_there (shown b) h l p e f, shown_within h i))))
       ∙ hop_told net now.well_formed (shown b) F agree l p
+      )
 
   pub delay_answered : (l : ℕ) → delay_answer (told_delay b l) ≡ tell_delay net l F
   delay_answered l =
       let within = largest_within (departure (shown b)) limit (hops_of net l) (λ h i. shown_within h (kept_in (λ (h : Hop). eqb h.link l) net.hops h i).0) in
-      ap (λ o. delay_answer (told o (capped (delay net (shown b) l)))) (standing_met (drop 1 (delay_question b l)))
-      ∙ answer_told delay_is delay_answer (λ x. refl) (λ e. refl) (first_met (drop 1 (delay_question b l))) (capped (delay net (shown b) l))
+      simp up (
+      answer_told delay_is delay_answer (λ x. refl) (λ e. refl) (first_met (drop 1 (delay_question b l))) (capped (delay net (shown b) l))
       ∙ or_same (first_met (drop 1 (delay_question b l))) _ _ (λ n. ap delay_is (limit_capped (delay net (shown b) l) within))
       ∙ delay_told net now.well_formed (shown b) F agree l
+      )
 
 -- ## One call more
 
@@ -158,14 +157,10 @@ telling_adds : (c : Call) → Fits c → (b : Book) (a : Answer) (tell : Records
 telling_adds c fits b a tell does none some = question_adds c fits a b (λ cs as' m. does m.state (go cs as' m m.state.served refl))
   where
     go : (cs : List Call) (as' : List Answer) (m : Made cs as' b) (o : Option Served) → m.state.served ≡ o → Told m.state (tell m.state.records) a
-    go cs as' m None e =
-        let s = m.state in
-        subst (λ (o : Option Served). Told (record { records = s.records; places = s.places; served = o }) (tell s.records) a) (sym e) (none (m.stands ∙ ap is_some e))
+    go cs as' m None e = rw (e, Told) (none (m.stands ∙ ap is_some e))
     go cs as' m (Some v) e =
-        let s = m.state in
         let now = standing_now cs as' b m v e in
-        subst (λ (o : Option Served). Told (record { records = s.records; places = s.places; served = o }) (tell s.records) a) (sym e)
-        (subst (λ (r : Records). (G : Figures) × Settled r v.method.worth G × (a ≡ tell r G)) m.holds (now.figures, now.settled, some (m.stands ∙ ap is_some e) v now))
+        rw (e, Told, ← m.holds) (now.figures, now.settled, some (m.stands ∙ ap is_some e) v now)
 
 pub port_adds : (b : Book) (p : ℕ) (r : Result (ℕ × ℕ) Refusal) → r ≡ told_port b p → Adds (port_figures p) (port_answer r) b b
 port_adds b p r is =
@@ -200,12 +195,16 @@ port_promised b p r is cs as' m v e x y ok =
     let net = records b in
     let F = now.figures in
     let answer : backlog_depth x y ≡ tell_port net p F = ap port_answer (sym ok ∙ is) ∙ port_answered b (m.stands ∙ ap is_some e) v now p in
-    let (none, same) = answer_given (first_met (drop 1 (port_question b p))) (backlog_depth x y) _ never answer in
+    let ground = first_met (drop 1 (port_question b p)) in
+    let (none, same) = answer_given ground (backlog_depth x y) _ (λ f h. cc) answer in
     let (q, i, at) = known_port net now.well_formed (shown b) F (shown_agree b F now.shows) p (none_met (drop 1 (port_question b p)) none).0 in
-    let (backlog, deep) = parts x y _ _ same in
+    let backlog : x ≡ F.backlog p = cc in
+    let deep : y ≡ depth net F p = cc in
     record {
       figures = λ G g.
-          parts x y _ _ (answer_given (first_met (drop 1 (port_question b p))) (backlog_depth x y) _ never (answer ∙ port_told net now.well_formed F G (others_agree b v now G g) p)).1;
+          let alike : backlog_depth x y ≡ backlog_depth (G.backlog p) (depth net G p)
+          = (answer_given ground (backlog_depth x y) (backlog_depth (G.backlog p) (depth net G p)) (λ f h. cc) (answer ∙ port_told net now.well_formed F G (others_agree b v now G g) p)).1 in
+          (cc, cc);
       exist = (F, now.settled);
       unsent_most = λ T k t. omega (arith, backlog, subst (λ n. unsent net T n t ≤ F.backlog n) at (now.no_more T k q i t).0);
       held_most = λ T k t. omega (arith, deep, subst (λ n. held_count net T n t ≤ depth net F n) at (now.no_more T k q i t).1);
@@ -218,12 +217,6 @@ port_promised b p r is cs as' m v e x y ok =
             ),
           );
     }
-  where
-    never : (f : Refusal) → ¬ (backlog_depth x y ≡ refused f)
-    never f h = let z : ◌≡◌ {A = ℕ} 0 1 = cc in absurd (omega arith)
-
-    parts : (x y u w : ℕ) → backlog_depth x y ≡ backlog_depth u w → (x ≡ u) × (y ≡ w)
-    parts x y u w h = (cc, cc)
 
 pub hop_promised : (b : Book) (l p : ℕ) (r : Result (ℕ × ℕ × ℕ) Refusal) → r ≡ told_hop b l p → HopPromised b l p r
 hop_promised b l p r is cs as' m v e x y z ok =
@@ -231,12 +224,15 @@ hop_promised b l p r is cs as' m v e x y z ok =
     let net = records b in
     let F = now.figures in
     let answer : earliest_latest_departure x y z ≡ tell_hop net l p F = ap hop_answer (sym ok ∙ is) ∙ hop_answered b (m.stands ∙ ap is_some e) v now l p in
-    let (none, same) = answer_given (first_met (drop 1 (hop_question b l p))) (earliest_latest_departure x y z) _ never answer in
+    let ground = first_met (drop 1 (hop_question b l p)) in
+    let (none, same) = answer_given ground (earliest_latest_departure x y z) _ (λ f h. cc) answer in
     let (h, i, link, port) = hop_there net l p (none_met (drop 1 (hop_question b l p)) none).1.1.0 in
-    let last = (parts x y z _ _ _ same).2 in
+    let last : z ≡ departure F (the_hop l p) = cc in
     record {
       figures = λ G g.
-          parts x y z _ _ _ (answer_given (first_met (drop 1 (hop_question b l p))) (earliest_latest_departure x y z) _ never (answer ∙ hop_told net now.well_formed F G (others_agree b v now G g) l p)).1;
+          let alike : earliest_latest_departure x y z ≡ earliest_latest_departure (G.earliest l p) (G.latest l p) (departure G (the_hop l p))
+          = (answer_given ground (earliest_latest_departure x y z) (earliest_latest_departure (G.earliest l p) (G.latest l p) (departure G (the_hop l p))) (λ f h. cc) (answer ∙ hop_told net now.well_formed F G (others_agree b v now G g) l p)).1 in
+          (cc, cc, cc);
       exist = (F, now.settled);
       no_later = λ T k f j at.
           omega (arith, last, departure_there F h l p link port, subst (λ n. end net T f n ≤ f.release + departure F h) port (now.no_later T k f j h i (link ∙ sym at)).0);
@@ -244,12 +240,6 @@ hop_promised b l p r is cs as' m v e x y z ok =
           let (works, smaller) = now.by_forward more le in
           (works, λ G g. omega (arith, last, departure_there F h l p link port, departure_there G h l p link port, departure_smaller net now.well_formed v.method.worth v.method.lawful F now.settled G g h i));
     }
-  where
-    never : (f : Refusal) → ¬ (earliest_latest_departure x y z ≡ refused f)
-    never f h = let q : ◌≡◌ {A = ℕ} 0 1 = cc in absurd (omega arith)
-
-    parts : (x y z u w k : ℕ) → earliest_latest_departure x y z ≡ earliest_latest_departure u w k → (x ≡ u) × (y ≡ w) × (z ≡ k)
-    parts x y z u w k h = (cc, cc, cc)
 
 pub delay_promised : (b : Book) (l : ℕ) (r : Result ℕ Refusal) → r ≡ told_delay b l → DelayPromised b l r
 delay_promised b l r is cs as' m v e x ok =
@@ -257,12 +247,14 @@ delay_promised b l r is cs as' m v e x ok =
     let net = records b in
     let F = now.figures in
     let answer : delay_is x ≡ tell_delay net l F = ap delay_answer (sym ok ∙ is) ∙ delay_answered b (m.stands ∙ ap is_some e) v now l in
-    let (none, same) = answer_given (first_met (drop 1 (delay_question b l))) (delay_is x) _ never answer in
+    let ground = first_met (drop 1 (delay_question b l)) in
+    let (none, same) = answer_given ground (delay_is x) _ (λ f h. cc) answer in
     let (k, i, at) = link_there net l (none_met (drop 1 (delay_question b l)) none).0 in
-    let last = parts x _ same in
+    let last : x ≡ delay net F l = cc in
     record {
       figures = λ G g.
-          parts x _ (answer_given (first_met (drop 1 (delay_question b l))) (delay_is x) _ never (answer ∙ delay_told net now.well_formed F G (others_agree b v now G g) l)).1;
+          let alike : delay_is x ≡ delay_is (delay net G l) = (answer_given ground (delay_is x) (delay_is (delay net G l)) (λ f h. cc) (answer ∙ delay_told net now.well_formed F G (others_agree b v now G g) l)).1 in
+          cc;
       exist = (F, now.settled);
       no_later = λ T keeps f j of-link h there link.
           omega (arith, last, subst (λ n. end net T f h.port ≤ f.release + delay net F n) of-link (now.no_later T keeps f j h there (link ∙ sym of-link)).1);
@@ -270,9 +262,3 @@ delay_promised b l r is cs as' m v e x ok =
           let (works, smaller) = now.by_forward more le in
           (works, λ G g. omega (arith, last, subst (λ n. delay net G n ≤ delay net F n) at ((smaller G g).delays k i)));
     }
-  where
-    never : (f : Refusal) → ¬ (delay_is x ≡ refused f)
-    never f h = let z : ◌≡◌ {A = ℕ} 0 1 = cc in absurd (omega arith)
-
-    parts : (x u : ℕ) → delay_is x ≡ delay_is u → x ≡ u
-    parts x u h = cc

@@ -1,30 +1,35 @@
 -- The hops of one link stand together: what stands before them and after them is of other links.
-use Rattle.std.proofs.Common.{◌≡◌, ℕ, zero, suc, ◌+◌, ◌-◌, ◌<◌, ◌≤◌, Bool, true, false, cond, not, ◌&&◌, ◌||◌, eqb, List, [], ◌∷◌, ◌++◌, map, length, get_or, take, drop, Some, None, Ok, Err, filter, Option, sym, refl, ap, ◌∙◌, subst, inl, inr, add-one, arith, length-take}
+use Rattle.std.proofs.Common.{◌≡◌, ℕ, zero, suc, ◌+◌, ◌-◌, ◌<◌, ◌≤◌, Bool, true, false, not, ◌&&◌, ◌||◌, eqb, List, [], ◌∷◌, ◌++◌, map, length, get_or, take, drop, None, Ok, Err, filter, sym, refl, ap, ◌∙◌, inl, inr, add-one, arith, length-take}
 use Rattle.std.specs.List.{AllByRecursion}
 use Rattle.std.proofs.lemmas.Bool.Decides.{nat_tests}
-use Rattle.std.proofs.lemmas.Bool.{eq-eqb, ne_eqb, and_parts, cases_lt, ltb-true, or_left, or_right}
+use Rattle.std.proofs.lemmas.Bool.{eq-eqb, ne_eqb, and_parts, cases_lt, ltb-true}
 use Rattle.std.proofs.lemmas.List.{take-append-drop, drop-drop, drop_more, drop_all, get_or-take, get_or-drop, map-append, append-nil}
 use Rattle.std.proofs.ByRecursion.{All-weaker, All-drop, All-from_get_or}
 use Rattle.definitions.specs.declared.network.VirtualLink.{VirtualLink}
 use Rattle.definitions.specs.declared.network.Hop.{Hop}
-use Rattle.definitions.specs.declared.refusals.Refusal.{Refusal}
 use Rattle.definitions.specs.declared.refusals.Refusal.TheVariants.{LinkUnknown}
-use Rattle.definitions.specs.Lists.{In, every, some, ascending}
-use Rattle.definitions.specs.Entries.{begins, has_link, removal_ground, removed}
+use Rattle.definitions.specs.Lists.{every, some, ascending}
+use Rattle.definitions.specs.Entries.{begins, has_link, has_first_hop, removal_ground, removed}
 use Rattle.register.specs.Tables.{rows, room, by_key, TableBy, Found, Starts, Removing}
-use Rattle.register.proofs.Sorted.{without_ascends}
+use Rattle.register.proofs.Sorted.{without_ascends, getD_in, none_under as absent_under}
+use Rattle.theory.proofs.Members.{all_in}
+use Rattle.theory.proofs.Lookups.{in_every}
+use Rattle.std.proofs.lemmas.List.Elements.{filter-append}
 use Rattle.working_out.specs.declared.rows.LinkRow.{LinkRow}
 use Rattle.working_out.specs.declared.rows.HopRow.{HopRow}
 use Rattle.book.specs.declared.books.Book.{Book}
-use Rattle.working_out.specs.Keys.{number_before, place_before, link_key, hop_key, Ports}
+use Rattle.working_out.specs.Keys.{number_before, place_before, link_key, hop_key}
+use Rattle.working_out.proofs.Under.{numbers_one}
 use Rattle.book.specs.Books.{records, Doing}
 use Rattle.book.proofs.Adding.{same_records}
-use Rattle.book.proofs.Entering.{none_under, same_places, unchanged, ports_of}
+use Rattle.book.proofs.Entering.{some_under, none_under, same_places, unchanged}
 use Rattle.book.specs.LinkRuns.{RunEnd}
-use Rattle.book.proofs.Runs.{row_begins}
 
 abbrev no_row : HopRow
 no_row = record { hop = record { link = 0; port = 0; after = None }; earliest = 0; latest = 0 }
+
+abbrev no_link : LinkRow
+no_link = record { link = record { number = 0; gap = 0; shortest = 0; longest = 0 } }
 
 abbrev hop_of : HopRow → Hop
 hop_of r = r.hop
@@ -42,13 +47,6 @@ links_rise r s h = grind (arith, nat_tests)
 
 -- ## Filters and tests over parts
 
-kept_append : {X : Type 0} (t : X → Bool) (xs ys : List X) → filter t (xs ++ ys) ≡ filter t xs ++ filter t ys
-kept_append t [] ys = refl
-kept_append t (x ∷ xs) ys = elim (t x) as (λ b. cond b (x ∷ filter t (xs ++ ys)) (filter t (xs ++ ys)) ≡ cond b (x ∷ filter t xs) (filter t xs) ++ filter t ys) [
-  | true ↦ ap (λ l. x ∷ l) (kept_append t xs ys)
-  | false ↦ kept_append t xs ys
-]
-
 kept_all : {X Y : Type 0} (f : X → Y) (t : Y → Bool) (xs : List X) → AllByRecursion (λ x. t (f x) ≡ true) xs → filter t (map f xs) ≡ map f xs
 kept_all f t [] a = refl
 kept_all f t (x ∷ xs) a = rw a.0 (ap (λ l. f x ∷ l) (kept_all f t xs a.1))
@@ -57,24 +55,14 @@ kept_none : {X Y : Type 0} (f : X → Y) (t : Y → Bool) (xs : List X) → AllB
 kept_none f t [] a = refl
 kept_none f t (x ∷ xs) a = rw a.0 (kept_none f t xs a.1)
 
-some_append : {X : Type 0} (t : X → Bool) (xs ys : List X) → some t (xs ++ ys) ≡ (some t xs || some t ys)
-some_append t [] ys = refl
-some_append t (x ∷ xs) ys = elim (t x) as (λ b. (b || some t (xs ++ ys)) ≡ ((b || some t xs) || some t ys)) [
-  | true ↦ refl
-  | false ↦ some_append t xs ys
-]
+-- a test of two parts, the first of which is the filter's
+some_kept : {X : Type 0} (t u : X → Bool) (xs : List X) → some (λ x. t x && u x) xs ≡ some u (filter t xs)
+some_kept t u [] = refl
+some_kept t u (x ∷ xs) = grind (arith, some_kept t u xs)
 
-some_none : {X Y : Type 0} (f : X → Y) (t : Y → Bool) (xs : List X) → AllByRecursion (λ x. t (f x) ≡ false) xs → some t (map f xs) ≡ false
-some_none f t [] a = refl
-some_none f t (x ∷ xs) a = rw a.0 (some_none f t xs a.1)
-
-some_same : {X Y : Type 0} (f : X → Y) (t : Y → Bool) (u : X → Bool) (xs : List X) → AllByRecursion (λ x. t (f x) ≡ u x) xs → some t (map f xs) ≡ some u xs
-some_same f t u [] a = refl
-some_same f t u (x ∷ xs) a = rw (a.0, some_same f t u xs a.1)
-
-or_none : (b : Bool) → (b || false) ≡ b
-or_none true = refl
-or_none false = refl
+some_map : {X Y : Type 0} (f : X → Y) (t : Y → Bool) (xs : List X) → some t (map f xs) ≡ some (λ x. t (f x)) xs
+some_map f t [] = refl
+some_map f t (x ∷ xs) = ap (λ b. t (f x) || b) (some_map f t xs)
 
 -- ## The three parts
 
@@ -84,7 +72,7 @@ module _ (rs : List HopRow) (l from to : ℕ) (up : ascending (by_key place_befo
   mid = take (to - from) (drop from rs)
 
   front_others : AllByRecursion (λ (r : HopRow). ¬ (r.hop.link ≡ l)) (take from rs)
-  front_others = All-weaker (λ r. place_before (hop_key r) (l, 0) ≡ true) (λ r. ¬ (r.hop.link ≡ l)) (λ r h e. omega (arith, before_start l r h)) (take from rs) st.1
+  front_others = All-weaker _ _ (λ r h e. omega (arith, before_start l r h)) _ st.1
 
   mid_alike : AllByRecursion (λ (r : HopRow). r.hop.link ≡ l) mid
   mid_alike = All-from_get_or (λ (r : HopRow). r.hop.link ≡ l) mid no_row (λ i lt.
@@ -95,38 +83,30 @@ module _ (rs : List HopRow) (l from to : ℕ) (up : ascending (by_key place_befo
   back_is : drop to rs ≡ drop (to - from) (drop from rs)
   back_is =
       let e : from + (to - from) ≡ to = omega (arith, re.in_order) in
-      ap (λ n. drop n rs) (sym e) ∙ sym (drop-drop (to - from) from rs)
+      rw (drop-drop (to - from) from rs, e)
 
   rises : (y : HopRow) (zs : List HopRow) → l < y.hop.link → every (by_key place_before hop_key y) zs ≡ true → AllByRecursion (λ (r : HopRow). ¬ (r.hop.link ≡ l)) zs
-  rises y [] lt h = tt
-  rises y (z ∷ zs) lt h =
-      let (a, b) = and_parts (by_key place_before hop_key y z) (every (by_key place_before hop_key y) zs) h in
-      ((λ e. omega (arith, links_rise y z a)), rises y zs lt b)
+  rises y zs lt h = all_in _ zs (λ z i e. omega (arith, links_rise y z (in_every (by_key place_before hop_key y) zs h z i)))
 
   back_others : AllByRecursion (λ (r : HopRow). ¬ (r.hop.link ≡ l)) (drop to rs)
   back_others = elim (cases_lt to (length rs)) [
     | inl lt ↦
         let e = drop_more rs to no_row lt in
-        let asc = subst (λ (zs : List HopRow). ascending (by_key place_before hop_key) zs ≡ true) e (without_ascends (by_key place_before hop_key) rs 0 to (omega arith) up) in
-        let late = subst (AllByRecursion (λ (r : HopRow). place_before (hop_key r) (l, 0) ≡ false)) (sym back_is ∙ e) (All-drop (λ (r : HopRow). place_before (hop_key r) (l, 0) ≡ false) (to - from) (drop from rs) st.2) in
+        let asc = rw e at (without_ascends (by_key place_before hop_key) rs 0 to (omega arith) up) in
+        let late = rw (← back_is, e) at (All-drop _ (to - from) (drop from rs) st.2) in
+        let (first, rest) = and_parts _ _ asc in
         let other = re.stops lt no_row in
-        let (first, rest) = and_parts (every (by_key place_before hop_key (get_or rs to no_row)) (drop (to + 1) rs)) (ascending (by_key place_before hop_key) (drop (to + 1) rs)) asc in
         let later = after_start l (get_or rs to no_row) late.0 in
-        subst (AllByRecursion (λ (r : HopRow). ¬ (r.hop.link ≡ l))) (sym e) (other, rises (get_or rs to no_row) (drop (to + 1) rs) (omega arith) first)
-    | inr le ↦ subst (AllByRecursion (λ (r : HopRow). ¬ (r.hop.link ≡ l))) (sym (drop_all to rs le)) tt
+        rw e (other, rises (get_or rs to no_row) (drop (to + 1) rs) (omega arith) first)
+    | inr le ↦ rw (drop_all to rs le) tt
   ]
 
   parts : rs ≡ take from rs ++ (mid ++ drop to rs)
-  parts =
-      sym (take-append-drop from rs) ∙ ap (λ t. take from rs ++ t) (sym (take-append-drop (to - from) (drop from rs)) ∙ ap (λ t. mid ++ t) (sym back_is))
+  parts = sym (rw (back_is, take-append-drop (to - from) (drop from rs)) (take-append-drop from rs))
 
   -- a filter over the hops, part by part
   kept_parts : (t : Hop → Bool) → filter t (map hop_of rs) ≡ filter t (map hop_of (take from rs)) ++ (filter t (map hop_of mid) ++ filter t (map hop_of (drop to rs)))
-  kept_parts t =
-      ap (λ x. filter t (map hop_of x)) parts
-      ∙ ap (filter t) (map-append hop_of (take from rs) (mid ++ drop to rs) ∙ ap (λ x. map hop_of (take from rs) ++ x) (map-append hop_of mid (drop to rs)))
-      ∙ kept_append t (map hop_of (take from rs)) (map hop_of mid ++ map hop_of (drop to rs))
-      ∙ ap (λ x. filter t (map hop_of (take from rs)) ++ x) (kept_append t (map hop_of mid) (map hop_of (drop to rs)))
+  kept_parts t = ap (λ x. filter t (map hop_of x)) parts ∙ simp (map-append, filter-append)
 
   -- the hops of other links are those before and after the run
   pub others_left : filter (λ (h : Hop). not (eqb h.link l)) (map hop_of rs) ≡ map hop_of (take from rs ++ drop to rs)
@@ -136,9 +116,9 @@ module _ (rs : List HopRow) (l from to : ℕ) (up : ascending (by_key place_befo
       let alike : (r : HopRow) → r.hop.link ≡ l → not (eqb r.hop.link l) ≡ false = λ r e. ap not (eq-eqb r.hop.link l e) in
       kept_parts t
       ∙ rw (
-        kept_all hop_of t (take from rs) (All-weaker (λ (r : HopRow). ¬ (r.hop.link ≡ l)) (λ (r : HopRow). t (hop_of r) ≡ true) other (take from rs) front_others),
-        kept_none hop_of t mid (All-weaker (λ (r : HopRow). r.hop.link ≡ l) (λ (r : HopRow). t (hop_of r) ≡ false) alike mid mid_alike),
-        kept_all hop_of t (drop to rs) (All-weaker (λ (r : HopRow). ¬ (r.hop.link ≡ l)) (λ (r : HopRow). t (hop_of r) ≡ true) other (drop to rs) back_others),
+        kept_all hop_of t (take from rs) (All-weaker _ _ other _ front_others),
+        kept_none hop_of t mid (All-weaker _ _ alike _ mid_alike),
+        kept_all hop_of t (drop to rs) (All-weaker _ _ other _ back_others),
       )
       (sym (map-append hop_of (take from rs) (drop to rs)))
 
@@ -150,28 +130,19 @@ module _ (rs : List HopRow) (l from to : ℕ) (up : ascending (by_key place_befo
       let alike : (r : HopRow) → r.hop.link ≡ l → t (hop_of r) ≡ true = λ r e. eq-eqb r.hop.link l e in
       kept_parts t
       ∙ rw (
-        kept_none hop_of t (take from rs) (All-weaker (λ (r : HopRow). ¬ (r.hop.link ≡ l)) (λ (r : HopRow). t (hop_of r) ≡ false) other (take from rs) front_others),
-        kept_all hop_of t mid (All-weaker (λ (r : HopRow). r.hop.link ≡ l) (λ (r : HopRow). t (hop_of r) ≡ true) alike mid mid_alike),
-        kept_none hop_of t (drop to rs) (All-weaker (λ (r : HopRow). ¬ (r.hop.link ≡ l)) (λ (r : HopRow). t (hop_of r) ≡ false) other (drop to rs) back_others),
+        kept_none hop_of t (take from rs) (All-weaker _ _ other _ front_others),
+        kept_all hop_of t mid (All-weaker _ _ alike _ mid_alike),
+        kept_none hop_of t (drop to rs) (All-weaker _ _ other _ back_others),
       )
       (append-nil (map hop_of mid))
 
-  -- a first hop of the link is one of the run
-  pub first_in_run : some (λ (h : Hop). eqb h.link l && begins h) (map hop_of rs) ≡ some row_begins mid
-  first_in_run =
-      let t : Hop → Bool = λ (h : Hop). eqb h.link l && begins h in
-      let other : (r : HopRow) → ¬ (r.hop.link ≡ l) → t (hop_of r) ≡ false = λ r n. ap (λ b. b && begins r.hop) (ne_eqb r.hop.link l n) in
-      let alike : (r : HopRow) → r.hop.link ≡ l → t (hop_of r) ≡ row_begins r = λ r e. ap (λ b. b && begins r.hop) (eq-eqb r.hop.link l e) in
-      ap (λ x. some t (map hop_of x)) parts
-      ∙ ap (some t) (map-append hop_of (take from rs) (mid ++ drop to rs) ∙ ap (λ x. map hop_of (take from rs) ++ x) (map-append hop_of mid (drop to rs)))
-      ∙ some_append t (map hop_of (take from rs)) (map hop_of mid ++ map hop_of (drop to rs))
-      ∙ ap (λ b. some t (map hop_of (take from rs)) || b) (some_append t (map hop_of mid) (map hop_of (drop to rs)))
-      ∙ rw (
-        some_none hop_of t (take from rs) (All-weaker (λ (r : HopRow). ¬ (r.hop.link ≡ l)) (λ (r : HopRow). t (hop_of r) ≡ false) other (take from rs) front_others),
-        some_none hop_of t (drop to rs) (All-weaker (λ (r : HopRow). ¬ (r.hop.link ≡ l)) (λ (r : HopRow). t (hop_of r) ≡ false) other (drop to rs) back_others),
-        some_same hop_of t row_begins mid (All-weaker (λ (r : HopRow). r.hop.link ≡ l) (λ (r : HopRow). t (hop_of r) ≡ row_begins r) alike mid mid_alike),
-      )
-      (or_none (some row_begins mid))
+-- whether a link has a first hop, told by its run
+pub first_hop_told : (b : Book) (l from to : ℕ) → Starts place_before hop_key (rows b.hops) (l, 0) from → RunEnd (rows b.hops) l from to
+    → has_first_hop (records b) l ≡ some (λ (x : HopRow). begins x.hop) (take (to - from) (drop from (rows b.hops)))
+first_hop_told b l from to st re =
+    some_kept (λ (h : Hop). eqb h.link l) begins (records b).hops
+    ∙ ap (some begins) (hops_in_run (rows b.hops) l from to b.hops.ascends st re)
+    ∙ some_map hop_of begins (take (to - from) (drop from (rows b.hops)))
 
 -- ## Removing
 
@@ -184,15 +155,8 @@ run_gone lt key from to t u false (same, n) le most = absurd (n (le, most))
 -- the link at its place is the only one of its number
 module _ (l : ℕ) where
   larger : (y : LinkRow) (zs : List LinkRow) → y.link.number ≡ l → every (by_key number_before link_key y) zs ≡ true → AllByRecursion (λ (r : LinkRow). not (eqb r.link.number l) ≡ true) zs
-  larger y [] e h = tt
-  larger y (z ∷ zs) e h =
-      let (a, b) = and_parts (by_key number_before link_key y z) (every (by_key number_before link_key y) zs) h in
-      (ap not (ne_eqb z.link.number l (λ q. omega (arith, ltb-true y.link.number z.link.number a))), larger y zs e b)
-
-  in_every : (test : LinkRow → Bool) (zs : List LinkRow) → every test zs ≡ true → (i : ℕ) (d : LinkRow) → i < length zs → test (get_or zs i d) ≡ true
-  in_every test [] h i d lt = absurd (omega arith)
-  in_every test (u ∷ us) h zero d lt = (and_parts (test u) (every test us) h).0
-  in_every test (u ∷ us) h (suc i) d lt = in_every test us (and_parts (test u) (every test us) h).1 i d (omega arith)
+  larger y zs e h = all_in _ zs (λ z i.
+      ap not (ne_eqb z.link.number l (λ q. omega (arith, ltb-true y.link.number z.link.number (in_every (by_key number_before link_key y) zs h z i)))))
 
   one_link_left : (rs : List LinkRow) (i : ℕ) → ascending (by_key number_before link_key) rs ≡ true → i < length rs → ((d : LinkRow) → link_key (get_or rs i d) ≡ l)
       → filter (λ (m : VirtualLink). not (eqb m.number l)) (map (λ (r : LinkRow). r.link) rs) ≡ map (λ (r : LinkRow). r.link) (take i rs ++ drop (suc i) rs)
@@ -203,7 +167,7 @@ module _ (l : ℕ) where
       (kept_all (λ (r : LinkRow). r.link) (λ (m : VirtualLink). not (eqb m.number l)) ys (larger y ys (e y) first))
   one_link_left (y ∷ ys) (suc i) up lt e =
       let (first, rest) = and_parts (every (by_key number_before link_key y) ys) (ascending (by_key number_before link_key) ys) up in
-      let less = ltb-true y.link.number (get_or ys i y).link.number (in_every (by_key number_before link_key y) ys first i y (omega arith)) in
+      let less = ltb-true y.link.number (get_or ys i y).link.number (in_every (by_key number_before link_key y) ys first (get_or ys i y) (getD_in ys i y (omega arith))) in
       rw (ne_eqb y.link.number l (λ q. omega (arith, e y)))
       (ap (λ x. y.link ∷ x) (one_link_left ys i rest (omega arith) e))
 
@@ -216,28 +180,18 @@ pub link_taken : (b d : Book) (l place from to : ℕ) (x y : Bool)
 link_taken b d l place from to x y found st re links hops ports down =
     let (room-l, new-l) = run_gone number_before link_key place (place + 1) b.links d.links x links (omega arith) (omega (arith, found.0)) in
     let (room-h, new-h) = run_gone place_before hop_key from to b.hops d.hops y hops re.in_order re.within in
-    let known : has_link (records b) l ≡ true = link_known (rows b.links) place found.0 found.1 in
-    let ground : removal_ground (records b) l ≡ None = rw known in
-    subst (λ (o : Option Refusal). Doing o (removed (records b) l) b d (Ok tt)) (sym ground) (
-      refl,
-      same_records _ _ _ _ _ _ (ap ports_of ports)
-          (ap (map (λ (r : LinkRow). r.link)) (new-l ∙ rw (add-one place)) ∙ sym (one_link_left l (rows b.links) place b.links.ascends found.0 found.1))
-          (ap (map hop_of) new-h ∙ sym (others_left (rows b.hops) l from to b.hops.ascends st re)),
-      down,
-      same_places _ _ _ _ _ _ (ap (λ (t : Ports). room t) ports) room-l room-h,
-    )
-  where
-    link_known : (rs : List LinkRow) (i : ℕ) → i < length rs → ((d : LinkRow) → link_key (get_or rs i d) ≡ l)
-        → some (λ (m : VirtualLink). eqb m.number l) (map (λ (r : LinkRow). r.link) rs) ≡ true
-    link_known [] i lt e = absurd (omega arith)
-    link_known (z ∷ zs) zero lt e = or_left (eqb z.link.number l) _ (eq-eqb z.link.number l (e z))
-    link_known (z ∷ zs) (suc i) lt e = or_right (eqb z.link.number l) _ (link_known zs i (omega arith) e)
+    let known : has_link (records b) l ≡ true
+    = some_under (λ (r : LinkRow). r.link) link_key l (λ (m : VirtualLink). eqb m.number l) (λ y e. eq-eqb y.link.number l e) (rows b.links)
+    (get_or (rows b.links) place no_link) (getD_in (rows b.links) place no_link found.0) (found.1 no_link) in
+    let links_left = ap (map (λ (r : LinkRow). r.link)) (new-l ∙ rw (add-one place)) ∙ sym (one_link_left l (rows b.links) place b.links.ascends found.0 found.1) in
+    let hops_left = ap (map hop_of) new-h ∙ sym (others_left (rows b.hops) l from to b.hops.ascends st re) in
+    rw known (refl, same_records (rw ports) links_left hops_left, down, same_places (rw ports) room-l room-h)
 
 -- an unknown link leaves the book as it was
-pub link_unknown : (b : Book) (l : ℕ) → ((y : LinkRow) → In y (rows b.links) → ¬ (link_key y ≡ l))
+pub link_unknown : (b : Book) (l i : ℕ) → Found number_before link_key (rows b.links) l (Err i)
     → Doing (removal_ground (records b) l) (removed (records b) l) b b (Err LinkUnknown)
-link_unknown b l absent =
+link_unknown b l i found =
+    let absent = absent_under number_before numbers_one link_key l (rows b.links) i found.1 found.2 in
     let unknown : has_link (records b) l ≡ false
     = none_under (λ (r : LinkRow). r.link) link_key l (λ (m : VirtualLink). eqb m.number l) (λ z n. ne_eqb z.link.number l n) (rows b.links) absent in
-    let ground : removal_ground (records b) l ≡ Some LinkUnknown = rw unknown in
-    subst (λ (o : Option Refusal). Doing o (removed (records b) l) b b (Err LinkUnknown)) (sym ground) (refl, unchanged b b refl refl refl refl)
+    rw unknown (refl, unchanged b b refl refl refl refl)

@@ -1,14 +1,19 @@
 -- Walking over the hops of a link.
-use Rattle.std.proofs.Common.{◌≡◌, ℕ, ◌+◌, ◌-◌, ◌<◌, ◌≤◌, Bool, true, false, ◌||◌, List, [], ◌∷◌, eqb, length, get_or, take, drop, Some, None, refl, ap, ◌∙◌, subst, arith}
+use Rattle.std.proofs.Common.{◌≡◌, ℕ, ◌+◌, ◌-◌, ◌<◌, ◌≤◌, Bool, ◌||◌, List, [], ◌∷◌, length, get_or, drop, refl, ap, ◌∙◌, arith}
 use Rattle.std.specs.List.{AllWithin, HoldsAt, list_any}
 use Rattle.std.specs.Option.{is_none}
-use Rattle.std.proofs.lemmas.Bool.{eqb-true, eqb-false}
-use Rattle.std.proofs.lemmas.List.{get_or-drop, length-drop, length-take}
+use Rattle.std.proofs.lemmas.List.{get_or-drop, length-drop}
 use Rattle.definitions.specs.declared.network.Hop.{Hop}
 use Rattle.definitions.specs.Lists.{some}
 use Rattle.definitions.specs.Entries.{begins}
 use Rattle.working_out.specs.declared.rows.HopRow.{HopRow}
 use Rattle.book.specs.LinkRuns.{RunEnd}
+
+abbrev pub same_link : ℕ → HopRow → Type 0
+same_link l r = r.hop.link ≡ l
+
+abbrev pub other_link : ℕ → HopRow → Type 0
+other_link l r = ¬ (r.hop.link ≡ l)
 
 module _ (rs : List HopRow) (l from : ℕ) (le : from ≤ length rs) where
   -- what stands so many places after the start
@@ -18,42 +23,27 @@ module _ (rs : List HopRow) (l from : ℕ) (le : from ≤ length rs) where
       get_or-drop from rs (k - from) d ∙ ap (λ n. get_or rs n d) e
 
   -- the first row of another link ends the run
-  pub run_stops : (i : ℕ) → (i < length (drop from rs)) × HoldsAt (λ (r : HopRow). ¬ (r.hop.link ≡ l)) (drop from rs) i × AllWithin (λ (r : HopRow). r.hop.link ≡ l) (drop from rs) 0 i
+  pub run_stops : (i : ℕ) → (i < length (drop from rs)) × HoldsAt (other_link l) (drop from rs) i × AllWithin (same_link l) (drop from rs) 0 i
       → RunEnd rs l from (from + i)
   run_stops i (lt, other, same) = record {
     in_order = omega arith;
     within = omega (arith, length-drop from rs);
-    alike = λ k d a b. subst (λ (r : HopRow). r.hop.link ≡ l) (further k d a) (same (k - from) d (omega arith) (omega arith));
+    alike = λ k d a b. rw (← further k d a) (same (k - from) d (omega arith) (omega arith));
     stops = λ _ d e. other d (ap (λ (r : HopRow). r.hop.link) (get_or-drop from rs i d) ∙ e);
   }
 
   -- where there is none, it goes to the end
-  pub run_all : AllWithin (λ (r : HopRow). r.hop.link ≡ l) (drop from rs) 0 (length (drop from rs)) → RunEnd rs l from (length rs)
+  pub run_all : AllWithin (same_link l) (drop from rs) 0 (length (drop from rs)) → RunEnd rs l from (length rs)
   run_all same = record {
     in_order = le;
     within = omega arith;
-    alike = λ k d a b. subst (λ (r : HopRow). r.hop.link ≡ l) (further k d a) (same (k - from) d (omega arith) (omega (arith, length-drop from rs)));
+    alike = λ k d a b. rw (← further k d a) (same (k - from) d (omega arith) (omega (arith, length-drop from rs)));
     stops = λ lt. absurd (omega arith);
   }
 
--- a run has rows exactly where its end is not its start
-module _ (rs xs : List HopRow) (l from to : ℕ) (same : xs ≡ rs) (re : RunEnd rs l from to) where
-  pub run_empty : eqb (length (take (to - from) (drop from xs))) 0 ≡ true → from ≡ to
-  run_empty e =
-      let none = eqb-true (length (take (to - from) (drop from xs))) 0 e in
-      omega (arith, none, length-take (to - from) (drop from xs), length-drop from xs, ap length same, re.in_order, re.within)
-
-  pub run_some : eqb (length (take (to - from) (drop from xs))) 0 ≡ false → ¬ (from ≡ to)
-  run_some e stop =
-      let some = eqb-false (length (take (to - from) (drop from xs))) 0 e in
-      some (omega (arith, stop, length-take (to - from) (drop from xs)))
-
 -- a hop after none begins its link
 pub begins_is : (h : Hop) (b : Bool) → b ≡ is_none h.after → b ≡ begins h
-begins_is h b = elim h.after as (λ o. b ≡ is_none o → b ≡ elim o as (λ _. Bool) [ None ↦ true | Some q ↦ false ]) [
-  | None ↦ λ e. e
-  | Some q ↦ λ e. e
-]
+begins_is h b e = grind arith
 
 abbrev pub row_begins : HopRow → Bool
 row_begins r = begins r.hop

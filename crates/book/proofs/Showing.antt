@@ -1,17 +1,15 @@
 -- What the rows of a book show, and what it tells from them.
-use Rattle.std.proofs.Common.{◌≡◌, ℕ, ◌+◌, ◌-◌, ◌^◌, ◌<◌, Bool, true, false, ◌&&◌, eqb, List, [], ◌∷◌, map, length, take, drop, Some, None, Ok, Err, Option, MatchOption, unwrap_or, sym, refl, ap, ◌∙◌, inl, inr, arith, length-drop, length-take}
+use Rattle.std.proofs.Common.{◌≡◌, ℕ, ◌+◌, ◌-◌, ◌^◌, ◌<◌, Bool, true, false, ◌&&◌, eqb, List, [], ◌∷◌, map, length, take, drop, Some, None, Ok, Err, Option, unwrap_or, sym, refl, ap, ◌∙◌, inl, inr, arith}
 use lib.ListN.{length-map}
-use Rattle.std.specs.Option.{SomeIff}
 use Rattle.std.specs.List.{AllByRecursion}
 use Rattle.std.proofs.lemmas.Bool.Decides.{nat_tests}
-use Rattle.std.proofs.lemmas.Bool.{and_parts, cases_Bool, eqb-true, eq-eqb, ne_eqb, le-ltb, not-false}
+use Rattle.std.proofs.lemmas.Bool.{eqb-true, eq-eqb, ne_eqb, le-ltb, not-false}
 use Rattle.std.proofs.ByRecursion.{All-take, All-drop}
 use Rattle.definitions.specs.declared.network.Port.{Port}
 use Rattle.definitions.specs.declared.network.Hop.{Hop}
-use Rattle.definitions.specs.declared.refusals.Refusal.{Refusal}
 use Rattle.definitions.specs.declared.refusals.Refusal.TheVariants.{PortUnknown, NoHopThere, NoHops}
 use Rattle.definitions.specs.Lists.{In, largest, ascending}
-use Rattle.definitions.specs.Entries.{first_met, has_port, has_link, has_hop}
+use Rattle.definitions.specs.Entries.{has_port, has_link, has_hop}
 use Rattle.definitions.specs.Figures.{Figures, departure, delay, depth, hops_of, earliest_at, latest_at}
 use Rattle.definitions.specs.Promises.{Agree}
 use Rattle.folds.specs.Folds.{Told}
@@ -22,12 +20,12 @@ use Rattle.theory.proofs.Keys.{all_map_in}
 use Rattle.theory.proofs.KeptRules.{none_met}
 use Rattle.working_out.specs.declared.rows.PortRow.{PortRow}
 use Rattle.working_out.specs.declared.rows.HopRow.{HopRow}
-use Rattle.working_out.specs.Keys.{number_before, place_before, port_key, hop_key}
+use Rattle.working_out.specs.Keys.{number_before, place_before, port_key, hop_key, Ports}
 use Rattle.book.specs.declared.books.Book.{Book}
 use Rattle.book.specs.Books.{records, Shows}
 use Rattle.book.specs.LinkRuns.{RunEnd}
-use Rattle.book.specs.Questions.{first_of, port_row, hop_row, shown, row_departure, told, capped, delay_question, link_ground, told_port, told_hop, told_delay}
-use Rattle.book.proofs.Hops.{this_place, has_port_told, has_hop_told, met_first}
+use Rattle.book.specs.Questions.{first_of, port_row, hop_row, shown, row_departure, capped, delay_question, link_ground, told_port, told_hop, told_delay}
+use Rattle.book.proofs.Hops.{this_place, has_port_told, has_hop_told}
 use Rattle.book.proofs.LinkHops.{hops_in_run}
 
 -- ## The row under a key
@@ -37,10 +35,7 @@ first_is : {X : Type 0} (test : X → Bool) (none : X) (xs : List X) (x : X) →
     → ((y : X) → In y xs → test y ≡ true → y ≡ x) → first_of test none xs ≡ x
 first_is test none [] x i t only = absurd i
 first_is test none (y ∷ ys) x (inl e) t only = rw (← e) (rw t)
-first_is test none (y ∷ ys) x (inr i) t only = elim (cases_Bool (test y)) [
-  | inl s ↦ rw s (only y (inl refl) s)
-  | inr s ↦ rw s (first_is test none ys x i t (λ z j. only z (inr j)))
-]
+first_is test none (y ∷ ys) x (inr i) t only = grind (arith, only y (inl refl), first_is test none ys x i t (λ z j. only z (inr j)))
 
 -- rows in order of their keys have one row under each
 row_is : {R K : Type 0} (lt : K → K → Bool) (key : R → K) → ((k : K) → lt k k ≡ false) → (test : R → Bool) (k : K)
@@ -67,9 +62,7 @@ hop_row_is xs up x i l p e =
     never m q = grind (arith, nat_tests)
 
     here : (y : HopRow) → (eqb y.hop.link l && eqb y.hop.port p) ≡ true → hop_key y ≡ (l, p)
-    here y t =
-        let (a, b) = and_parts (eqb y.hop.link l) (eqb y.hop.port p) t in
-        ap (λ u. (u, y.hop.port)) (eqb-true y.hop.link l a) ∙ ap (λ w. (l, w)) (eqb-true y.hop.port p b)
+    here y t = grind (arith, nat_tests)
 
 -- ## Figures that the rows show
 
@@ -103,18 +96,17 @@ module _ (b : Book) (F : Figures) (s : Shows b F) where
 -- ## What is told
 
 -- the backlog under a number
-backlog_got : (xs : List PortRow) (n : ℕ) → ascending (by_key number_before port_key) xs ≡ true → (x : PortRow) → Getting port_key xs n (Some x)
-    → x.backlog ≡ (port_row xs n).backlog
-backlog_got xs n up x (i, e) = ap (λ (r : PortRow). r.backlog) (sym (port_row_is xs up x i n e))
+pub backlog_is : (t : Ports) (n : ℕ) (o : Option PortRow) → Getting port_key (rows t) n o → (row : PortRow) → o ≡ Some row → (port_row (rows t) n).backlog ≡ row.backlog
+backlog_is t n o got row e =
+    let (i, at) = rw e at got in
+    ap (λ (r : PortRow). r.backlog) (port_row_is (rows t) t.ascends row i n at)
 
-no_backlog : (xs : List PortRow) (n : ℕ) → Getting port_key xs n None → 0 ≡ (port_row xs n).backlog
-no_backlog [] n none = refl
-no_backlog (x ∷ xs) n none = rw (ne_eqb x.port.number n (none x (inl refl))) (no_backlog xs n (λ y i. none y (inr i)))
+no_row : (xs : List PortRow) (n : ℕ) → Getting port_key xs n None → (port_row xs n).backlog ≡ 0
+no_row [] n none = refl
+no_row (x ∷ xs) n none = rw (ne_eqb x.port.number n (none x (inl refl))) (no_row xs n (λ y i. none y (inr i)))
 
-pub backlog_told : (xs : List PortRow) (n : ℕ) → ascending (by_key number_before port_key) xs ≡ true → (o : Option PortRow) → Getting port_key xs n o
-    → (b : ℕ) → MatchOption o (b ≡ 0) (λ row. b ≡ row.backlog) → b ≡ (port_row xs n).backlog
-backlog_told xs n up (Some x) got b is = is ∙ backlog_got xs n up x got
-backlog_told xs n up None got b is = is ∙ no_backlog xs n got
+pub no_backlog : (t : Ports) (n : ℕ) (o : Option PortRow) → Getting port_key (rows t) n o → o ≡ None → (port_row (rows t) n).backlog ≡ 0
+no_backlog t n o got e = no_row (rows t) n (rw e at got)
 
 -- a question about a link that meets neither of the first grounds
 pub link_is_known : (b : Book) (l : ℕ) → None ≡ link_ground b l → (b.standing ≡ true) × (has_link (records b) l ≡ true)
@@ -122,47 +114,34 @@ link_is_known b l e =
     let none = none_met (take 2 (delay_question b l)) (sym e) in
     (not-false b.standing none.0, not-false (has_link (records b) l) none.1.0)
 
--- one of the first grounds is told
-pub refused_first : {X : Type 0} (n : ℕ) (gs : List (Bool × Refusal)) (e : Refusal) (x : X) → Some e ≡ first_met (take n gs) → Err e ≡ told (first_met gs) x
-refused_first n gs e x met = ap (λ o. told o x) (sym (met_first n gs e (sym met)))
-
-module _ (b : Book) (up : b.standing ≡ true) (p : ℕ) where
+module _ (b : Book) (up : b.standing ≡ true) (p : ℕ) (o : Option PortRow) (got : Getting port_key (rows b.ports) p o) where
   -- of a port
-  pub port_is_told : (row : PortRow) → Getting port_key (rows b.ports) p (Some row) → Ok (row.backlog, row.depth) ≡ told_port b p
-  port_is_told row got =
-      let known : has_port (records b) p ≡ true = sym (has_port_told p (rows b.ports) (Some row) got) in
-      rw (up, known, port_row_is (rows b.ports) b.ports.ascends row got.0 p got.1)
+  pub port_is_told : (row : PortRow) → o ≡ Some row → told_port b p ≡ Ok (row.backlog, row.depth)
+  port_is_told row e =
+      let at = rw e at got in
+      rw (up, sym (has_port_told b p o got), e, port_row_is (rows b.ports) b.ports.ascends row at.0 p at.1)
 
-  pub port_is_unknown : Getting port_key (rows b.ports) p None → Err PortUnknown ≡ told_port b p
-  port_is_unknown got =
-      let unknown : has_port (records b) p ≡ false = sym (has_port_told p (rows b.ports) None got) in
-      rw (up, unknown)
+  pub port_is_unknown : o ≡ None → told_port b p ≡ Err PortUnknown
+  port_is_unknown e = rw (up, sym (has_port_told b p o got), e)
 
   module _ (l : ℕ) (link : has_link (records b) l ≡ true) where
     -- of a hop
-    pub hop_without_port : Getting port_key (rows b.ports) p None → Err PortUnknown ≡ told_hop b l p
-    hop_without_port got =
-        let unknown : has_port (records b) p ≡ false = sym (has_port_told p (rows b.ports) None got) in
-        rw (up, link, unknown)
+    pub hop_without_port : o ≡ None → told_hop b l p ≡ Err PortUnknown
+    hop_without_port e = rw (up, link, sym (has_port_told b p o got), e)
 
-    module _ (at : PortRow) (port : Getting port_key (rows b.ports) p (Some at)) where
-      known_port : has_port (records b) p ≡ true
-      known_port = sym (has_port_told p (rows b.ports) (Some at) port)
+    pub no_hop_is_there : (at : PortRow) → o ≡ Some at → (q : Option HopRow) → Getting hop_key (rows b.hops) (l, p) q → q ≡ None → told_hop b l p ≡ Err NoHopThere
+    no_hop_is_there at e q there f = rw (up, link, sym (has_port_told b p o got), e, sym (has_hop_told b l p q there), f)
 
-      pub no_hop_is_there : Getting hop_key (rows b.hops) (l, p) None → Err NoHopThere ≡ told_hop b l p
-      no_hop_is_there got =
-          let unknown : has_hop (records b) l p ≡ false = sym (has_hop_told l p (rows b.hops) None got) in
-          rw (up, link, known_port, unknown)
-
-      pub hop_is_told : (row : HopRow) → Getting hop_key (rows b.hops) (l, p) (Some row) → (z : ℕ) → z ≡ capped (row.latest + at.backlog)
-          → Ok (row.earliest, row.latest, z) ≡ told_hop b l p
-      hop_is_told row got z e =
-          let there : has_hop (records b) l p ≡ true = sym (has_hop_told l p (rows b.hops) (Some row) got) in
-          rw (up, link, known_port, there) (
-          ap (λ d. Ok (row.earliest, row.latest, d)) e
-          ∙ ap (λ (q : PortRow). Ok (row.earliest, row.latest, capped (row.latest + q.backlog))) (sym (port_row_is (rows b.ports) b.ports.ascends at port.0 p port.1))
-          ∙ ap (λ (r : HopRow). Ok (r.earliest, r.latest, capped (r.latest + (shown b).backlog p))) (sym (hop_row_is (rows b.hops) b.hops.ascends row got.0 l p got.1))
-          )
+pub hop_is_told : (b : Book) → b.standing ≡ true → (l : ℕ) → has_link (records b) l ≡ true → (p : ℕ) (at : PortRow) → Getting port_key (rows b.ports) p (Some at)
+    → (row : HopRow) → Getting hop_key (rows b.hops) (l, p) (Some row) → (z : ℕ) → z ≡ capped (row.latest + at.backlog) → Ok (row.earliest, row.latest, z) ≡ told_hop b l p
+hop_is_told b up l link p at port row hop z is =
+    let known : has_port (records b) p ≡ true = sym (has_port_told b p (Some at) port) in
+    let there : has_hop (records b) l p ≡ true = sym (has_hop_told b l p (Some row) hop) in
+    rw (up, link, known, there) (
+    ap (λ d. Ok (row.earliest, row.latest, d)) is
+    ∙ ap (λ (r : PortRow). Ok (row.earliest, row.latest, capped (row.latest + r.backlog))) (sym (port_row_is (rows b.ports) b.ports.ascends at port.0 p port.1))
+    ∙ ap (λ (r : HopRow). Ok (r.earliest, r.latest, capped (r.latest + (shown b).backlog p))) (sym (hop_row_is (rows b.hops) b.hops.ascends row hop.0 l p hop.1))
+    )
 
 -- ## The delay of a link
 
@@ -170,11 +149,6 @@ module _ (b : Book) (up : b.standing ≡ true) (p : ℕ) where
 largest_over : {X Y : Type 0} (f : Y → ℕ) (g : X → Y) (k : X → ℕ) (xs : List X) → AllByRecursion (λ x. f (g x) ≡ k x) xs → largest f (map g xs) ≡ largest k xs
 largest_over f g k [] a = refl
 largest_over f g k (x ∷ xs) a = rw (a.0, largest_over f g k xs a.1)
-
--- a checked sum tells the figure
-pub checked_told : (n : ℕ) (o : Option ℕ) → SomeIff o (n < 2 ^ 64) n → Told n o
-checked_told n (Some w) h = h.1
-checked_told n None h = omega arith
 
 -- what 64 bits hold of a figure
 pub capped_told : (n : ℕ) (o : Option ℕ) → Told n o → unwrap_or o (2 ^ 64 - 1) < 2 ^ 64 → unwrap_or o (2 ^ 64 - 1) ≡ capped n
@@ -189,10 +163,8 @@ module _ (b : Book) (up : b.standing ≡ true) (l : ℕ) (link : has_link (recor
   hops_are : hops_of (records b) l ≡ map (λ (r : HopRow). r.hop) run
   hops_are = hops_in_run (rows b.hops) l from to b.hops.ascends st re
 
-  how_many : length (hops_of (records b) l) ≡ to - from
-  how_many =
-      ap length hops_are ∙ length-map run (λ (r : HopRow). r.hop)
-      ∙ omega (arith, length-take (to - from) (drop from (rows b.hops)), length-drop from (rows b.hops), re.in_order, re.within)
+  how_many : length (hops_of (records b) l) ≡ length run
+  how_many = ap length hops_are ∙ length-map run (λ (r : HopRow). r.hop)
 
   -- the rows of the run show the departures of the link's hops
   delay_is_shown : delay (records b) (shown b) l ≡ largest (row_departure (rows b.ports)) run
@@ -203,13 +175,16 @@ module _ (b : Book) (up : b.standing ≡ true) (l : ℕ) (link : has_link (recor
       ∙ largest_over (departure (shown b)) (λ (r : HopRow). r.hop) (row_departure (rows b.ports)) run
       (All-take _ (to - from) (drop from (rows b.hops)) (All-drop _ from (rows b.hops) (all_in _ (rows b.hops) here)))
 
-  pub no_hops : from ≡ to → Err NoHops ≡ told_delay b l
-  no_hops e =
-      let none : eqb (length (hops_of (records b) l)) 0 ≡ true = eq-eqb (length (hops_of (records b) l)) 0 (omega (arith, how_many)) in
-      rw (up, link, none)
+  module _ (xs : List HopRow) (same : xs ≡ rows b.hops) where
+    pub no_hops : eqb (length (take (to - from) (drop from xs))) 0 ≡ true → told_delay b l ≡ Err NoHops
+    no_hops e =
+        let none : eqb (length run) 0 ≡ true = rw same at e in
+        rw (up, link, how_many, none)
 
-  pub delay_is_told : ¬ (from ≡ to) → (o : Option ℕ) → Told (largest (row_departure (rows b.ports)) run) o
-      → (d : ℕ) → d ≡ unwrap_or o (2 ^ 64 - 1) → d < 2 ^ 64 → Ok d ≡ told_delay b l
-  delay_is_told n o t d e fits =
-      let more : eqb (length (hops_of (records b) l)) 0 ≡ false = ne_eqb (length (hops_of (records b) l)) 0 (λ q. n (omega (arith, how_many, re.in_order))) in
-      rw (up, link, more) (ap Ok (e ∙ capped_told _ o t (omega arith) ∙ ap capped (sym delay_is_shown)))
+    pub delay_is_told : eqb (length (take (to - from) (drop from xs))) 0 ≡ false
+        → (o : Option ℕ) → Told (largest (row_departure (rows b.ports)) (take (to - from) (drop from xs))) o
+        → (d : ℕ) → d ≡ unwrap_or o (2 ^ 64 - 1) → d < 2 ^ 64 → told_delay b l ≡ Ok d
+    delay_is_told e o t d is fits =
+        let more : eqb (length run) 0 ≡ false = rw same at e in
+        let told : Told (largest (row_departure (rows b.ports)) run) o = rw same at t in
+        rw (up, link, how_many, more) (ap Ok (ap capped delay_is_shown ∙ sym (is ∙ capped_told _ o told (omega arith))))

@@ -47,6 +47,7 @@ impl<'a> Book<'a> {
     }
 
     // Enters a port.
+    #[tactic(auto, using(crate::proofs::Adding::port_entry_adds))]
     pub fn enter_port(&mut self, port: Port) -> Result<(), Refusal>
         ensures outcome { Doing (entry_ground (places self.old) (records self.old) (port_entry port)) (entered (records self.old) (port_entry port)) self.old self.new result }
         ensures run { Adds (enter (port_entry port)) (answer_of result) self.old self.new }
@@ -56,6 +57,7 @@ impl<'a> Book<'a> {
 
     // The three kinds of records are put in alike; in one function for all, the tests, the limit and both refusals would be
     // arguments, or constants of a trait with an impl for each, which is no shorter.
+    #[tactic(auto, using(crate::proofs::Entering::port_present))]
     fn add_port(&mut self, port: Port) -> Result<(), Refusal>
         ensures { Doing (entry_ground (places self.old) (records self.old) (port_entry port)) (entered (records self.old) (port_entry port)) self.old self.new result }
     {
@@ -73,6 +75,7 @@ impl<'a> Book<'a> {
     }
 
     // Enters a virtual link.
+    #[tactic(auto, using(crate::proofs::Adding::link_entry_adds))]
     pub fn enter_link(&mut self, link: VirtualLink) -> Result<(), Refusal>
         ensures outcome { Doing (entry_ground (places self.old) (records self.old) (link_entry link)) (entered (records self.old) (link_entry link)) self.old self.new result }
         ensures run { Adds (enter (link_entry link)) (answer_of result) self.old self.new }
@@ -80,6 +83,7 @@ impl<'a> Book<'a> {
         self.add_link(link)
     }
 
+    #[tactic(auto, using(crate::proofs::Entering::link_added, crate::proofs::Entering::link_present, crate::proofs::Entering::link_full))]
     fn add_link(&mut self, link: VirtualLink) -> Result<(), Refusal>
         ensures { Doing (entry_ground (places self.old) (records self.old) (link_entry link)) (entered (records self.old) (link_entry link)) self.old self.new result }
     {
@@ -100,6 +104,7 @@ impl<'a> Book<'a> {
     }
 
     // Enters a hop.
+    #[tactic(auto, using(crate::proofs::Adding::hop_entry_adds))]
     pub fn enter_hop(&mut self, hop: Hop) -> Result<(), Refusal>
         ensures outcome { Doing (entry_ground (places self.old) (records self.old) (hop_entry hop)) (entered (records self.old) (hop_entry hop)) self.old self.new result }
         ensures run { Adds (enter (hop_entry hop)) (answer_of result) self.old self.new }
@@ -107,6 +112,7 @@ impl<'a> Book<'a> {
         self.add_hop(hop)
     }
 
+    #[tactic(auto, using(crate::proofs::Hops::hop_unfit, crate::proofs::Hops::hop_present))]
     fn add_hop(&mut self, hop: Hop) -> Result<(), Refusal>
         ensures { Doing (entry_ground (places self.old) (records self.old) (hop_entry hop)) (entered (records self.old) (hop_entry hop)) self.old self.new result }
     {
@@ -142,24 +148,28 @@ impl<'a> Book<'a> {
         }
     }
 
+    #[tactic(auto, using(crate::proofs::Hops::has_link_told))]
     pub(crate) fn has_link(&self, number: u16) -> bool
         ensures { result ≡ has_link (records self.now) number }
     {
         self.links.get(number).is_some()
     }
 
+    #[tactic(auto, using(crate::proofs::Hops::has_port_told, crate::proofs::Hops::port_found))]
     fn find_port(&self, number: u8) -> Option<Port>
         ensures { MatchOption result (has_port (records self.now) number ≡ false) (λ p. (has_port (records self.now) number ≡ true) × (find_port (records self.now).ports number ≡ p)) }
     {
         self.ports.get(number).map(|row| row.port)
     }
 
+    #[tactic(auto, using(crate::proofs::Hops::has_hop_told))]
     fn has_hop(&self, link: u16, port: u8) -> bool
         ensures { result ≡ has_hop (records self.now) link port }
     {
         self.hops.get((link, port)).is_some()
     }
 
+    #[tactic(auto, using(crate::proofs::LinkHops::first_hop_told))]
     fn has_first_hop(&self, link: u16) -> bool
         ensures { result ≡ has_first_hop (records self.now) link }
     {
@@ -177,6 +187,7 @@ impl<'a> Book<'a> {
     }
 
     // Removes a link with all its hops.
+    #[tactic(auto, using(crate::proofs::Adding::removal_adds))]
     pub fn remove_link(&mut self, link: u16) -> Result<(), Refusal>
         ensures outcome { Doing (removal_ground (records self.old) link) (removed (records self.old) link) self.old self.new result }
         ensures run { Adds (remove_link link) (answer_of result) self.old self.new }
@@ -184,6 +195,7 @@ impl<'a> Book<'a> {
         self.take_link(link)
     }
 
+    #[tactic(auto, using(crate::proofs::LinkHops::link_unknown))]
     fn take_link(&mut self, link: u16) -> Result<(), Refusal>
         ensures { Doing (removal_ground (records self.old) link) (removed (records self.old) link) self.old self.new result }
     {
@@ -198,6 +210,7 @@ impl<'a> Book<'a> {
     }
 
     // Removes all records; it never refuses.
+    #[tactic(auto, using(crate::proofs::Adding::clearing_adds))]
     pub fn clear(&mut self)
         ensures outcome { Doing None no_records self.old self.new (Ok tt) }
         ensures run { Adds clear done self.old self.new }
@@ -210,6 +223,7 @@ impl<'a> Book<'a> {
 
     // Of counts and records told there is one for each kind: each is a call of its own, which its `run` names.
     // How many ports there are.
+    #[tactic(auto, using(std::proofs::lemmas::Grind::common_steps, crate::proofs::Adding::port_count_adds))]
     pub fn port_count(&self) -> usize
         ensures outcome { result ≡ length (records self.now).ports }
         ensures run { Adds count_ports (count result) self.now self.now }
@@ -218,6 +232,7 @@ impl<'a> Book<'a> {
     }
 
     // How many links there are.
+    #[tactic(auto, using(std::proofs::lemmas::Grind::common_steps, crate::proofs::Adding::link_count_adds))]
     pub fn link_count(&self) -> usize
         ensures outcome { result ≡ length (records self.now).links }
         ensures run { Adds count_links (count result) self.now self.now }
@@ -226,6 +241,7 @@ impl<'a> Book<'a> {
     }
 
     // How many hops there are.
+    #[tactic(auto, using(std::proofs::lemmas::Grind::common_steps, crate::proofs::Adding::hop_count_adds))]
     pub fn hop_count(&self) -> usize
         ensures outcome { result ≡ length (records self.now).hops }
         ensures run { Adds count_hops (count result) self.now self.now }
@@ -234,6 +250,7 @@ impl<'a> Book<'a> {
     }
 
     // The port at a place, counted from 0 in ascending order; none past the last.
+    #[tactic(auto, using(crate::proofs::Adding::port_at_adds))]
     pub fn port_at(&self, place: usize) -> Option<Port>
         ensures outcome { result ≡ slice_get (records self.now).ports place }
         ensures run { Adds (port_at place) (port_is result) self.now self.now }
@@ -242,6 +259,7 @@ impl<'a> Book<'a> {
     }
 
     // The link at a place, counted from 0 in ascending order; none past the last.
+    #[tactic(auto, using(crate::proofs::Adding::link_at_adds))]
     pub fn link_at(&self, place: usize) -> Option<VirtualLink>
         ensures outcome { result ≡ slice_get (records self.now).links place }
         ensures run { Adds (link_at place) (link_is result) self.now self.now }
@@ -250,6 +268,7 @@ impl<'a> Book<'a> {
     }
 
     // The hop at a place, counted from 0 in ascending order; none past the last.
+    #[tactic(auto, using(crate::proofs::Adding::hop_at_adds))]
     pub fn hop_at(&self, place: usize) -> Option<Hop>
         ensures outcome { result ≡ slice_get (records self.now).hops place }
         ensures run { Adds (hop_at place) (hop_is result) self.now self.now }

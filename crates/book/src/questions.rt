@@ -29,6 +29,7 @@ impl<'b, 'a> Measure for Departure<'b, 'a> {
 }
 
 // The backlog of a port, 0 where there is no such port.
+#[tactic(auto, using(crate::proofs::Showing::backlog_is, crate::proofs::Showing::no_backlog))]
 fn backlog_at(ports: &Table<PortRow>, number: u8) -> u64
     ensures { result ≡ (port_row (rows ports.now) number).backlog }
 {
@@ -37,6 +38,7 @@ fn backlog_at(ports: &Table<PortRow>, number: u8) -> u64
 
 impl<'a> Book<'a> {
     // The worst backlog of a port, in ns, and its queue depth, in frames.
+    #[tactic(auto, using(crate::proofs::Asking::port_adds))]
     pub fn port_figures(&self, port: u8) -> Result<(u64, u64), Refusal>
         ensures outcome { result ≡ told_port self.now port }
         ensures run { Adds (port_figures port) (port_answer result) self.now self.now }
@@ -45,6 +47,7 @@ impl<'a> Book<'a> {
         self.tell_port(port)
     }
 
+    #[tactic(auto, using(crate::proofs::Showing::port_is_told, crate::proofs::Showing::port_is_unknown))]
     fn tell_port(&self, port: u8) -> Result<(u64, u64), Refusal>
         ensures { result ≡ told_port self.now port }
     {
@@ -56,6 +59,7 @@ impl<'a> Book<'a> {
     }
 
     // The earliest and the latest arrival of a frame at a hop and its latest departure, in ns after its release.
+    #[tactic(auto, using(crate::proofs::Asking::hop_adds))]
     pub fn hop_figures(&self, link: u16, port: u8) -> Result<(u64, u64, u64), Refusal>
         ensures outcome { result ≡ told_hop self.now link port }
         ensures run { Adds (hop_figures link port) (hop_answer result) self.now self.now }
@@ -64,6 +68,7 @@ impl<'a> Book<'a> {
         self.tell_hop(link, port)
     }
 
+    #[tactic(auto, using(crate::proofs::Hops::fit_of, crate::proofs::Showing::link_is_known, crate::proofs::Showing::hop_without_port, crate::proofs::Showing::no_hop_is_there, crate::proofs::Showing::hop_is_told))]
     fn tell_hop(&self, link: u16, port: u8) -> Result<(u64, u64, u64), Refusal>
         ensures { result ≡ told_hop self.now link port }
     {
@@ -78,6 +83,7 @@ impl<'a> Book<'a> {
     }
 
     // The largest departure of a link's hops, in ns after the release of a frame.
+    #[tactic(auto, using(crate::proofs::Asking::delay_adds))]
     pub fn delay(&self, link: u16) -> Result<u64, Refusal>
         ensures outcome { result ≡ told_delay self.now link }
         ensures run { Adds (delay_of link) (delay_answer result) self.now self.now }
@@ -86,6 +92,7 @@ impl<'a> Book<'a> {
         self.tell_delay(link)
     }
 
+    #[tactic(auto, using(crate::proofs::Hops::fit_of, crate::proofs::Showing::link_is_known, crate::proofs::Showing::no_hops))]
     fn tell_delay(&self, link: u16) -> Result<u64, Refusal>
         ensures { result ≡ told_delay self.now link }
     {

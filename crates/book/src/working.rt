@@ -13,6 +13,7 @@ use working_out::working::work_out;
 impl<'a> Book<'a> {
     // Works out all figures by the method, over a load table that has a place for every hop. A refusal leaves no
     // figures, all of them zero.
+    #[tactic(auto, using(crate::proofs::WorkedBook::made_working))]
     pub fn work_out<M: Method>(&mut self, method: &M, loads: &mut [Load]) -> Result<(), Refusal>
         ensures outcome { WorksBook (M.Method.worth method.now) (length loads.old) self.old self.new result }
         ensures load_places { length loads.new ≡ length loads.old }

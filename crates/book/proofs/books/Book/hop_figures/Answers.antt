@@ -1,11 +1,6 @@
-use Rattle.book.proofs.Asking.{hop_adds, hop_promised}
+use Rattle.book.proofs.Asking.{hop_promised}
 use Rattle.book.proofs.books.Book.hop_figures.Goals as goal
 
-pub returns : goal.returns
-returns c =
-    let is = c.tell_hop.ensures in
-    record {
-      outcome = is;
-      run = hop_adds c.args.self.now c.args.link c.args.port c.tell_hop.result is;
-      promise = hop_promised c.args.self.now c.args.link c.args.port c.tell_hop.result is;
-    }
+-- with the lemma named on the function no proof is found
+pub returns-clause-promise : goal.returns-clause-promise
+returns-clause-promise c = hop_promised c.args.self.now c.args.link c.args.port _ c.tell_hop.ensures
