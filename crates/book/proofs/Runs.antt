@@ -1,7 +1,7 @@
 -- Walking over the hops of a link.
-use Rattle.std.proofs.Common.{◌≡◌, ℕ, ◌+◌, ◌-◌, ◌<◌, ◌≤◌, Bool, ◌||◌, List, [], ◌∷◌, length, get_or, drop, refl, ap, ◌∙◌, arith}
+use Rattle.std.proofs.Common.{◌≡◌, ℕ, ◌+◌, ◌-◌, ◌<◌, ◌≤◌, Bool, ◌||◌, List, [], ◌∷◌, length, get_or, drop, Option, Some, None, MatchOption, subst, ap, ◌∙◌, arith, refl}
 use Rattle.std.specs.List.{AllWithin, HoldsAt, list_any}
-use Rattle.std.specs.Option.{is_none}
+use Rattle.std.specs.Option.{is_none, unwrap_or}
 use Rattle.std.proofs.lemmas.List.{get_or-drop, length-drop}
 use Rattle.definitions.specs.declared.network.Hop.{Hop}
 use Rattle.definitions.specs.Lists.{some}
@@ -40,6 +40,15 @@ module _ (rs : List HopRow) (l from : ℕ) (le : from ≤ length rs) where
     alike = λ k d a b. rw (← further k d a) (same (k - from) d (omega arith) (omega (arith, length-drop from rs)));
     stops = λ lt. absurd (omega arith);
   }
+
+  pub run_ends : (o : Option ℕ)
+      → MatchOption o (AllWithin (same_link l) (drop from rs) 0 (length (drop from rs)))
+      (λ i. (i < length (drop from rs)) × HoldsAt (other_link l) (drop from rs) i × AllWithin (same_link l) (drop from rs) 0 i)
+      → (m n : ℕ) → m ≡ length (drop from rs) → n ≡ unwrap_or o m → RunEnd rs l from (from + n)
+  run_ends None same m n all e =
+      let end : length rs ≡ from + n = omega (arith, e, all, length-drop from rs) in
+      subst (RunEnd rs l from) end (run_all same)
+  run_ends (Some i) first m n all e = rw e (run_stops i first)
 
 -- a hop after none begins its link
 pub begins_is : (h : Hop) (b : Bool) → b ≡ is_none h.after → b ≡ begins h

@@ -122,6 +122,7 @@ impl<'a> Book<'a> {
                 self.standing = false;
                 Ok(())
             }
+            // never of a hop that fits
             Err(NotInserted::Present) => Err(Refusal::HopPresent),
             Err(NotInserted::Full) => Err(Refusal::HopTableFull),
         }
@@ -199,9 +200,7 @@ impl<'a> Book<'a> {
     fn take_link(&mut self, link: u16) -> Result<(), Refusal>
         ensures { Doing (removal_ground (records self.old) link) (removed (records self.old) link) self.old self.new result }
     {
-        let Ok(place) = self.links.find(link) else {
-            return Err(Refusal::LinkUnknown);
-        };
+        let place = self.links.find(link).map_err(|_| Refusal::LinkUnknown)?;
         let run = self.run_of(link);
         let _ = self.links.remove_one(place);
         let _ = self.hops.remove_run(run.start, run.end);

@@ -12,10 +12,9 @@ pub(crate) fn run_end(rows: &[HopRow], link: u16, from: usize) -> usize
     requires { from ≤ length rows.now }
     ensures { RunEnd rows.now link from result }
 {
-    match rows[from..].iter().position(|row| row.hop.link != link) {
-        Some(count) => from + count,
-        None => rows.len(),
-    }
+    let rest = &rows[from..];
+    let others = rest.iter().position(|row| row.hop.link != link);
+    from + others.unwrap_or(rest.len())
 }
 
 // Whether one of the hops is a first hop.

@@ -1,4 +1,5 @@
-// What a book tells of its figures while they stand.
+// What a book tells of its figures while they stand. A question stands twice, as a call that changes the book does: the private
+// function has its outcome, the public one adds run and promise.
 ghost use Rattle.std.specs.Prelude.{◌≡◌};
 ghost use Rattle.definitions.specs.Calls.{port_figures, hop_figures, delay_of};
 ghost use Rattle.register.specs.Tables.{rows};

@@ -30,6 +30,7 @@ fn arrival(
         .filter(|row| row.progress == Progress::WorkedOut)?;
     let row = hops.get((hop.link, before))?;
     let shortest = u64::from(link_under(links, hop.link).shortest) * byte_time(&port.port);
+    // a length of 16 bits, at most 800 ns for each byte: the plain sum fits
     let earliest = row.earliest.saturating_add(shortest + LATENCY);
     let latest = row
         .latest
