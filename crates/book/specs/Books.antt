@@ -5,6 +5,7 @@
 --   unfit r h            the first ground that the hop h meets, of all but a full table
 --   Same b d             the book d is as b was: its rows, its places, and whether figures stand
 --   Doing g after b d r  with the ground g, if any, a call on b answers r and leaves d; without one it leaves the records `after`
+--   Enters e b d r       what the entry e of a record answers on b, and what it leaves in d
 --   Shows b F            the rows of the book show the figures F
 --   Made cs as b         the calls cs, which answered as, led to the book b
 --   WorksBook            what a working-out on the book b answers, and what it leaves in d
@@ -17,7 +18,7 @@ use Rattle.definitions.specs.declared.network.Hop.{Hop}
 use Rattle.definitions.specs.declared.refusals.Refusal.{Refusal}
 use Rattle.definitions.specs.declared.loads.Load.{Load}
 use Rattle.definitions.specs.Network.{Records, WellFormed}
-use Rattle.definitions.specs.Entries.{Places, first_met, hop_grounds}
+use Rattle.definitions.specs.Entries.{Places, Entry, entry_ground, entered, first_met, hop_grounds}
 use Rattle.definitions.specs.Figures.{Figures, Settled, depth, earliest_at, latest_at}
 use Rattle.definitions.specs.Calls.{Served, State, Call, Answer, done, refused, opened, Runs}
 use Rattle.register.specs.Tables.{rows, room}
@@ -52,6 +53,9 @@ pub record Same (b d : Book) : Type 0 where
 abbrev pub Doing : Option Refusal → Records → Book → Book → Result (Unit {0}) Refusal → Type 0
 Doing None after b d r = (r ≡ Ok tt) × (records d ≡ after) × (d.standing ≡ false) × (places d ≡ places b)
 Doing (Some e) after b d r = (r ≡ Err e) × Same b d
+
+abbrev pub Enters : Entry → Book → Book → Result (Unit {0}) Refusal → Type 0
+Enters e b = Doing (entry_ground (places b) (records b) e) (entered (records b) e) b
 
 pub record Shows (b : Book) (F : Figures) : Type 0 where
   pub ports : AllByRecursion (λ (r : PortRow). (r.backlog ≡ F.backlog r.port.number) × (r.depth ≡ depth (records b) F r.port.number)) (rows b.ports)

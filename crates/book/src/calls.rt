@@ -1,13 +1,13 @@
 // Opening, entering, removing, clearing, and the records by their places.
 ghost use Rattle.std.specs.Prelude.{◌≡◌, ◌≤◌, true, false, [], length, None, Ok, MatchOption};
-ghost use Rattle.definitions.specs.Entries.{Places, port_entry, link_entry, hop_entry, entry_ground, entered, removal_ground, removed, no_records, rate_known, gap_known, lengths_kept, has_link, has_port, has_hop, has_first_hop};
+ghost use Rattle.definitions.specs.Entries.{Places, port_entry, link_entry, hop_entry, removal_ground, removed, no_records, rate_known, gap_known, lengths_kept, has_link, has_port, has_hop, has_first_hop};
 ghost use Rattle.definitions.specs.Network.{find_port, suits};
 ghost use Rattle.std.specs.List.{slice_get};
 ghost use Rattle.definitions.specs.Calls.{enter, remove_link, clear, count_ports, count_links, count_hops, port_at, link_at, hop_at, done, count, port_is, link_is, hop_is};
 ghost use Rattle.register.specs.Tables.{rows, Starts};
 ghost use Rattle.working_out.specs.Keys.{place_before, hop_key};
 ghost use Rattle.working_out.specs.Works.{refused_by};
-ghost use Rattle.book.specs.Books.{records, places, unfit, Doing, Made, answer_of, Adds};
+ghost use Rattle.book.specs.Books.{records, places, unfit, Doing, Enters, Made, answer_of, Adds};
 ghost use Rattle.book.specs.LinkRuns.{RunEnd};
 
 use crate::books::Book;
@@ -49,7 +49,7 @@ impl<'a> Book<'a> {
     // Enters a port.
     #[tactic(auto, using(crate::proofs::Adding::port_entry_adds))]
     pub fn enter_port(&mut self, port: Port) -> Result<(), Refusal>
-        ensures outcome { Doing (entry_ground (places self.old) (records self.old) (port_entry port)) (entered (records self.old) (port_entry port)) self.old self.new result }
+        ensures outcome { Enters (port_entry port) self.old self.new result }
         ensures run { Adds (enter (port_entry port)) (answer_of result) self.old self.new }
     {
         self.add_port(port)
@@ -59,7 +59,7 @@ impl<'a> Book<'a> {
     // arguments, or constants of a trait with an impl for each, which is no shorter.
     #[tactic(auto, using(crate::proofs::Entering::port_present))]
     fn add_port(&mut self, port: Port) -> Result<(), Refusal>
-        ensures { Doing (entry_ground (places self.old) (records self.old) (port_entry port)) (entered (records self.old) (port_entry port)) self.old self.new result }
+        ensures { Enters (port_entry port) self.old self.new result }
     {
         if !has_known_rate(&port) {
             return Err(Refusal::RateUnknown);
@@ -77,7 +77,7 @@ impl<'a> Book<'a> {
     // Enters a virtual link.
     #[tactic(auto, using(crate::proofs::Adding::link_entry_adds))]
     pub fn enter_link(&mut self, link: VirtualLink) -> Result<(), Refusal>
-        ensures outcome { Doing (entry_ground (places self.old) (records self.old) (link_entry link)) (entered (records self.old) (link_entry link)) self.old self.new result }
+        ensures outcome { Enters (link_entry link) self.old self.new result }
         ensures run { Adds (enter (link_entry link)) (answer_of result) self.old self.new }
     {
         self.add_link(link)
@@ -85,7 +85,7 @@ impl<'a> Book<'a> {
 
     #[tactic(auto, using(crate::proofs::Entering::link_added, crate::proofs::Entering::link_present, crate::proofs::Entering::link_full))]
     fn add_link(&mut self, link: VirtualLink) -> Result<(), Refusal>
-        ensures { Doing (entry_ground (places self.old) (records self.old) (link_entry link)) (entered (records self.old) (link_entry link)) self.old self.new result }
+        ensures { Enters (link_entry link) self.old self.new result }
     {
         if !has_known_gap(&link) {
             return Err(Refusal::GapUnknown);
@@ -106,7 +106,7 @@ impl<'a> Book<'a> {
     // Enters a hop.
     #[tactic(auto, using(crate::proofs::Adding::hop_entry_adds))]
     pub fn enter_hop(&mut self, hop: Hop) -> Result<(), Refusal>
-        ensures outcome { Doing (entry_ground (places self.old) (records self.old) (hop_entry hop)) (entered (records self.old) (hop_entry hop)) self.old self.new result }
+        ensures outcome { Enters (hop_entry hop) self.old self.new result }
         ensures run { Adds (enter (hop_entry hop)) (answer_of result) self.old self.new }
     {
         self.add_hop(hop)
@@ -114,7 +114,7 @@ impl<'a> Book<'a> {
 
     #[tactic(auto, using(crate::proofs::Hops::hop_unfit, crate::proofs::Hops::hop_present))]
     fn add_hop(&mut self, hop: Hop) -> Result<(), Refusal>
-        ensures { Doing (entry_ground (places self.old) (records self.old) (hop_entry hop)) (entered (records self.old) (hop_entry hop)) self.old self.new result }
+        ensures { Enters (hop_entry hop) self.old self.new result }
     {
         self.fits(hop)?;
         match self.hops.insert(HopRow::new(hop), MOST_HOPS) {
