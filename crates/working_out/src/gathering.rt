@@ -56,7 +56,7 @@ pub(crate) fn gather(
     count
 }
 
-// The lowest port that its loads overload.
+// The lowest port that its loads overload; by a loop, since the loads are written anew for each port.
 #[tactic(auto, using(crate::proofs::Gathered::first_here))]
 pub(crate) fn first_overloaded(
     ports: &[PortRow],

@@ -54,7 +54,8 @@ fn spread(ports: &mut Table<PortRow>, hops: &[HopRow], from: u8) -> bool
     added
 }
 
-// Spreads the marks from `from` until nothing is added: at most once for every port.
+// Spreads the marks from `from` until nothing is added: at most once for every port. Rounds of `settle_all` end alike; one loop
+// for both would take the step as a closure over all tables, and be no plainer.
 #[tactic(auto, using(crate::proofs::RingMarks::few_unmarked))]
 fn spread_all(ports: &mut Table<PortRow>, hops: &[HopRow], from: u8)
     ensures { SpreadsAll hops.now from ports.old ports.new }

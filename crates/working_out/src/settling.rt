@@ -1,7 +1,4 @@
-// Rounds in which the figures of one port after another are worked out. Tables, method and loads are passed one by one and
-// not as one struct: so a signature says what a step may change, the links never and the hops only between rounds. That the
-// loads have a place for every hop is a fact of two parameters, and so a `requires`: a struct of both would be taken apart again
-// for each step that changes the hops or fills the loads.
+// Rounds in which the figures of one port after another are worked out.
 ghost use Rattle.std.specs.Prelude.{◌≡◌, ◌≤◌, List, length};
 ghost use Rattle.definitions.specs.Network.{Records};
 ghost use Rattle.register.specs.Tables.{rows, room};
