@@ -38,8 +38,7 @@ impl<'a, R: Keyed> Table<'a, R> {
     pub fn all(&self) -> &[R]
         ensures { result.now ≡ rows self.now }
     {
-        let places: &[R] = &*self.places;
-        &places[..self.len]
+        &self.places[..self.len]
     }
 
     // The record at a place, counted from 0; none past the last.
