@@ -220,7 +220,8 @@ impl<'a> Book<'a> {
         self.standing = false;
     }
 
-    // Of counts and records told there is one for each kind: each is a call of its own, which its `run` names.
+    // Of counts and records told there is one for each kind: each is a call of its own, which its `run` names, as one for all
+    // could not.
     // How many ports there are.
     #[tactic(auto, using(std::proofs::lemmas::Grind::common_steps, crate::proofs::Adding::port_count_adds))]
     pub fn port_count(&self) -> usize

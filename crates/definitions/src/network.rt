@@ -1,8 +1,8 @@
 ghost use Rattle.std.specs.Prelude.{◌≡◌};
 
 // The records of a network: output ports, virtual links and the hops of links at ports.
-// A value of these types may break the rules, with rates and gaps that are plain numbers, so that a wrong one is refused by
-// its ground; a book takes only what keeps the rules.
+// A value of these types may break the rules; a book takes only what keeps them. Rates and gaps are plain numbers, since the
+// calls have a ground for a wrong one, which an enum could not hold.
 
 #[derive(Clone, Copy, Default, PartialEq, Eq, Debug)]
 pub enum PortKind {

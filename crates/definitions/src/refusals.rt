@@ -51,7 +51,7 @@ pub enum Refusal {
 }
 
 impl Refusal {
-    // The ground's number, from 1 to 31.
+    // The ground's number, from 1 to 31; by hand, since an enum with values in its cases has no numbers of its own.
     pub fn number(&self) -> u8
         ensures { result ≡ number self.now }
     {

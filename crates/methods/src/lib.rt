@@ -14,7 +14,7 @@ pub mod overload;
 #[cfg(test)]
 mod tests;
 
-// A method. `worth` is what it means: a number for every list of loads that is not overloaded,
+// A method; a trait and no closure, since contracts name its worth and it brings the law of it. `worth` is what it means: a number for every list of loads that is not overloaded,
 // which is at least W(t) − t for every whole t.
 pub trait Method {
     ghost worth: { Self → List LoadRow → ℕ };

@@ -1,9 +1,10 @@
 -- Output: what is said of a port's loads.
 --
 --   Reports rows r        r tells how many loads there are, their demand, and what each method says
+--   printed x             why there is no worst backlog, as it is printed
 --   Tells worth rows r    r is the worth of the rows, or tells why a method of this worth answers none
 
-use Rattle.std.specs.Prelude.{◌≡◌, ℕ, ◌<◌, List, length, Ok, Err, Result}
+use Rattle.std.specs.Prelude.{◌≡◌, ℕ, ◌<◌, List, ◌++◌, length, decimal, codes, Ok, Err, Result}
 use Rattle.folds.specs.Folds.{Told}
 use Rattle.definitions.specs.declared.loads.Load.{Load}
 use Rattle.definitions.specs.Loads.{AreLoads}
@@ -12,6 +13,10 @@ use Rattle.definitions.specs.Windows as windows
 use Rattle.port_check.specs.declared.output.Report.{Report}
 use Rattle.port_check.specs.declared.output.NoBacklog.{NoBacklog}
 use Rattle.port_check.specs.declared.output.NoBacklog.TheVariants.{Overloaded, PastLimit}
+
+abbrev pub printed : NoBacklog → List ℕ
+printed Overloaded = codes "overloaded, so there is no worst backlog"
+printed PastLimit = codes "past the limit of " ++ decimal limit ++ codes " ns"
 
 abbrev pub Tells : (List Load → ℕ) → List Load → Result ℕ NoBacklog → Type 0
 Tells worth rows (Ok w) = Answerable worth rows × (w ≡ worth rows)

@@ -1,5 +1,6 @@
 // What is printed of a port.
-ghost use Rattle.port_check.specs.Output.{Tells, Reports};
+ghost use Rattle.std.specs.Prelude.{Some};
+ghost use Rattle.port_check.specs.Output.{printed, Tells, Reports};
 
 use definitions::loads::Load;
 use methods::forward_analysis::Forward;
@@ -16,6 +17,8 @@ pub enum NoBacklog {
 }
 
 impl fmt::Display for NoBacklog {
+    ghost output = { λ x. Some (printed x) };
+
     fn fmt<W: fmt::Write>(&self, f: &mut fmt::Formatter<W>) -> fmt::Result {
         match self {
             NoBacklog::Overloaded => write!(f, "overloaded, so there is no worst backlog"),

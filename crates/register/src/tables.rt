@@ -6,7 +6,7 @@ ghost use Rattle.register.specs.Orders.{by_key};
 use crate::keys::Keyed;
 
 // Records over lent places, since no memory is taken from the heap: the first `len` places are in use, and their keys
-// ascend.
+// ascend. That a call leaves as many places as there were is a fact of two states, and stays in the clauses.
 #[derive(Drop)]
 pub struct Table<'a, R: Keyed> {
     pub(crate) places: &'a mut [R],

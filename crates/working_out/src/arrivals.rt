@@ -72,7 +72,7 @@ pub(crate) fn advance(ports: &mut Table<PortRow>, links: &Table<LinkRow>, hops: 
     ensures same_count { length (rows hops.new) ≡ length (rows hops.old) }
     ensures advances { Advance ports.old links.now hops.old ports.new hops.new 0 (length (rows hops.old)) }
 {
-    // by place, since the rows change on the way
+    // by place: the rows change on the way, so that no iterator over them can be held
     for place in 0..hops.count() {
         pass(ports, links, hops, place);
     }

@@ -81,7 +81,7 @@ fn feeds_itself(ports: &mut Table<PortRow>, hops: &[HopRow], port: u8) -> bool
 pub(crate) fn first_in_ring(ports: &mut Table<PortRow>, hops: &[HopRow]) -> Option<u8>
     ensures { FindsRing hops.now ports.old ports.new result }
 {
-    // by place, since the rows change on the way
+    // by place: the rows change on the way, so that no iterator over them can be held
     for place in 0..ports.count() {
         let row = ports.at(place)?;
         if feeds_itself(ports, hops, row.port.number) {

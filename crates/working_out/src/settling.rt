@@ -67,7 +67,7 @@ fn settle_open<M: Method>(
     ensures settles { (r : Records) → Setting r (M.Method.worth method.now) → Known r (M.Method.worth method.now) (rows ports.old) (rows links.now) hops.now (length hops.now) → SettlesFirst r (M.Method.worth method.now) (rows links.now) hops.now (length (rows ports.old)) (rows ports.old) (rows ports.new) result }
 {
     let mut any = false;
-    // by place, since the rows change on the way
+    // by place: the rows change on the way, so that no iterator over them can be held
     for place in 0..ports.count() {
         any |= settle(ports, links, hops, method, loads, place);
     }
