@@ -56,7 +56,8 @@ pub(crate) fn gather(
     count
 }
 
-// The lowest port that its loads overload; by a loop, since the loads are written anew for each port.
+// The lowest port that its loads overload; by a loop: `find` was tried, but inside a closure that writes the loads the check no
+// longer knows that they have a place for every hop.
 #[tactic(auto, using(crate::proofs::Gathered::first_here))]
 pub(crate) fn first_overloaded(
     ports: &[PortRow],
