@@ -1,5 +1,5 @@
 -- What entering a record into a table makes of the book's records.
-use Rattle.std.proofs.Common.{◌≡◌, ℕ, ◌<◌, ◌≤◌, min, Bool, true, false, eqb, List, [], ◌∷◌, map, length, Ok, Err, refl, ap, ◌∙◌, inl, inr, arith}
+use Rattle.std.proofs.Common.{◌≡◌, ℕ, ◌<◌, ◌≤◌, min, Bool, true, false, eqb, List, [], ◌∷◌, map, length, Ok, Err, refl, sym, ap, ◌∙◌, inl, inr, arith}
 use lib.ListN.{length-map}
 use Rattle.std.proofs.lemmas.Bool.{eq-eqb, ne_eqb, le-leb, lt-leb}
 use Rattle.definitions.specs.declared.network.Port.{Port}
@@ -14,8 +14,8 @@ use Rattle.theory.proofs.Members.{in_some, in_map}
 use Rattle.working_out.specs.declared.rows.PortRow.{PortRow}
 use Rattle.working_out.specs.declared.rows.LinkRow.{LinkRow}
 use Rattle.book.specs.declared.books.Book.{Book}
-use Rattle.working_out.specs.Rows.{bare_port}
-use Rattle.working_out.specs.Keys.{number_before, port_key, link_key}
+use Rattle.working_out.specs.Rows.{bare_port, rested, AtRest}
+use Rattle.working_out.specs.Keys.{Ports, number_before, port_key, link_key}
 use Rattle.book.specs.Books.{records, places, Same, Doing}
 use Rattle.book.proofs.Adding.{same_records}
 
@@ -27,6 +27,12 @@ module _ {R S K : Type 0} (f : R → S) (lt : K → K → Bool) (key : R → K) 
   pub map_placed : (x : R) (xs : List R) → map f (placed (by_key lt key) x xs) ≡ placed before (f x) (map f xs)
   map_placed x [] = refl
   map_placed x (y ∷ ys) = grind (arith, agree x y, map_placed x ys)
+
+-- a row without figures that is put in its place has its marks at rest
+pub put_at_rest : (p : Port) (most : ℕ) (t u : Ports) → Inserting number_before port_key most (bare_port p) t u (Ok tt) → AtRest (rows t) → AtRest (rows u)
+put_at_rest p most t u (less, fresh, new) old =
+    ap (map rested) new ∙ map_placed rested number_before port_key (by_key number_before port_key) (λ x y. refl) (bare_port p) (rows t)
+    ∙ ap (placed (by_key number_before port_key) (bare_port p)) old ∙ sym new
 
 module _ {R S K : Type 0} (f : R → S) (key : R → K) (k : K) (test : S → Bool) where
   -- a row under the key passes the test of its record

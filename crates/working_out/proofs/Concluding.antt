@@ -16,13 +16,14 @@ use Rattle.working_out.specs.declared.rows.Progress.TheVariants.{Open, PastLimit
 use Rattle.working_out.specs.declared.rows.PortRow.{PortRow}
 use Rattle.working_out.specs.declared.rows.LinkRow.{LinkRow}
 use Rattle.working_out.specs.declared.rows.HopRow.{HopRow}
-use Rattle.working_out.specs.Keys.{Ports, Links, Hops}
-use Rattle.working_out.specs.Rows.{bare_port, bare_hop, net}
+use Rattle.working_out.specs.Keys.{Ports, Links, Hops, number_before, port_key}
+use Rattle.working_out.specs.Edits.{EditsAll}
+use Rattle.working_out.specs.Rows.{bare_port, bare_hop, net, rested, AtRest}
 use Rattle.working_out.specs.Gathering.{loads_at, FirstPort, OverloadedRow}
 use Rattle.working_out.specs.Settling.{Setting, Holds, Worked, Stuck}
 use Rattle.working_out.specs.Rings.{Remarked, RingTold, LowestTold}
 use Rattle.working_out.specs.Works.{Shown, Zero, Cleared, FiguresLeft, result_of, Judged, Works}
-use Rattle.working_out.proofs.RowLists.{map_in, map_again}
+use Rattle.working_out.proofs.RowLists.{map_in, map_again, map_fixed}
 use Rattle.working_out.proofs.Held.{hop_count}
 use Rattle.working_out.proofs.LoadsOf.{loads_are}
 use Rattle.working_out.proofs.Rounds.{unworked}
@@ -111,6 +112,9 @@ module _ (t : Ports) (h : Hops) (u : Ports) (k : Hops) (c : Cleared t h u k) whe
         (λ x i. let (y, j, e) = bare_hop_in x i in (cc, cc));
   }
 
+  pub cleared_rests : AtRest (rows u)
+  cleared_rests = rw c.ports (map_fixed rested (λ (x : PortRow). bare_port x.port) (rows t) (λ x. refl))
+
   pub cleared_open : (x : PortRow) → In x (rows u) → x.progress ≡ Open
   cleared_open x i = let (y, j, e) = bare_in x i in cc
 
@@ -124,6 +128,31 @@ module _ (t : Ports) (h : Hops) (u : Ports) (k : Hops) (c : Cleared t h u k) whe
       same : (x : PortRow) → In x (rows u) → loads_at (rows l) x.port (rows k) ≡ loads r still x.port.number
       same x i = loads_are r wf still (rows u) (rows l) (rows k) held x i
           (λ y j at. let (z, m, e) = bare_hop_in y j in (cc, cc))
+
+-- the marks of all rows are put to rest, and figures stay
+module _ (v w : Ports) (e : EditsAll number_before port_key rested v w) where
+  all_rested : rows w ≡ map rested (rows v)
+  all_rested = e.edited (λ x. refl)
+
+  pub edited_rests : AtRest (rows w)
+  edited_rests = rw all_rested (map_fixed rested rested (rows v) (λ x. refl))
+
+  rested_held : (r : Records) (ls : List LinkRow) (hs : List HopRow) → Holds r (rows v) ls hs → Holds r (rows w) ls hs
+  rested_held r ls hs held = record {
+    ports = ap (map (λ (x : PortRow). x.port)) all_rested ∙ map_again (λ (x : PortRow). x.port) rested (rows v) (λ x. refl) ∙ held.ports;
+    links = held.links;
+    hops = held.hops;
+  }
+
+  rested_shown : (r : Records) (F : Figures) (hs : List HopRow) → Shown r F (rows v) hs → Shown r F (rows w) hs
+  rested_shown r F hs before = record {
+    ports = all_in (λ (x : PortRow). (x.backlog ≡ F.backlog x.port.number) × (x.depth ≡ depth r F x.port.number)) (rows w)
+        (λ x i.
+        let (y, j, f) = map_in rested (rows v) x (subst (In x) all_rested i) in
+        let there = in_all (λ (z : PortRow). (z.backlog ≡ F.backlog z.port.number) × (z.depth ≡ depth r F z.port.number)) (rows v) before.ports y j in
+        rw f there);
+    hops = before.hops;
+  }
 
 module _ (worth : List Load → ℕ) (law : Lawful worth) (n : ℕ) (p : Ports) (l : Links) (h : Hops) (wf : WellFormed (net (rows p) (rows l) (rows h))) where
   abbrev r : Records
@@ -165,8 +194,14 @@ module _ (worth : List Load → ℕ) (law : Lawful worth) (n : ℕ) (p : Ports) 
             zero_left : (x : Outcome) → is_err (result_of x) ≡ true → FiguresLeft r worth (rows w) (rows j) x
             zero_left x f = grind (arith, cleared_zero v m w j again)
 
-        pub works_settled : is_err o ≡ false → Works r worth n (rows v) (rows l) (rows m) o
-        works_settled is =
+        pub works_settled : is_err o ≡ false → (w : Ports) → EditsAll number_before port_key rested v w → Works r worth n (rows w) (rows l) (rows m) o
+        works_settled is w e =
             let well : o ≡ Ok tt = grind arith in
             let (G, done, figures) = verdict.shown well in
-            record { outcome = settles; comes = (omega (arith, room, hop_count held), (G, done)); answer = well; held = verdict.held; left = (G, done, figures) }
+            record {
+              outcome = settles;
+              comes = (omega (arith, room, hop_count held), (G, done));
+              answer = well;
+              held = rested_held v w e r (rows l) (rows m) verdict.held;
+              left = (G, done, rested_shown v w e r G (rows m) figures);
+            }

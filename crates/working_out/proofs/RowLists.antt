@@ -14,6 +14,10 @@ pub map_again : {X Y : Type 0} (g : X → Y) (f : X → X) (xs : List X) → ((x
 map_again g f [] h = refl
 map_again g f (x ∷ xs) h = rw (h x, map_again g f xs h)
 
+pub map_fixed : {X Y : Type 0} (g : Y → Y) (f : X → Y) (xs : List X) → ((x : X) → g (f x) ≡ f x) → map g (map f xs) ≡ map f xs
+map_fixed g f [] h = refl
+map_fixed g f (x ∷ xs) h = rw (h x, map_fixed g f xs h)
+
 -- an item at a place stands in the list
 pub at_in : {X : Type 0} (xs : List X) (i : ℕ) (x : X) → Some x ≡ slice_get xs i → In x xs
 at_in [] i x e = grind arith

@@ -1,9 +1,11 @@
 -- Rows: the rows of ports and hops.
 --
 --   bare_port p, bare_hop h   the row of a port, or of a hop, without figures
+--   rested x                  the row of a port, with the marks of a working-out at rest
+--   AtRest ps                 all rows are so
 --   net ps ls hs              the records that the rows hold
 
-use Rattle.std.specs.Prelude.{false, List, map}
+use Rattle.std.specs.Prelude.{◌≡◌, false, List, map}
 use Rattle.definitions.specs.declared.network.Port.{Port}
 use Rattle.definitions.specs.declared.network.Hop.{Hop}
 use Rattle.definitions.specs.Network.{Records}
@@ -17,6 +19,12 @@ bare_port p = record { port = p; backlog = 0; depth = 0; progress = Open; fed = 
 
 abbrev pub bare_hop : Hop → HopRow
 bare_hop h = record { hop = h; earliest = 0; latest = 0 }
+
+abbrev pub rested : PortRow → PortRow
+rested x = record { port = x.port; backlog = x.backlog; depth = x.depth; progress = Open; fed = false }
+
+abbrev pub AtRest : List PortRow → Type 0
+AtRest ps = map rested ps ≡ ps
 
 abbrev pub net : List PortRow → List LinkRow → List HopRow → Records
 net ps ls hs = record {

@@ -1,6 +1,6 @@
 // The rows of the tables: records with their figures.
 ghost use Rattle.std.specs.Prelude.{◌≡◌};
-ghost use Rattle.working_out.specs.Rows.{bare_port, bare_hop};
+ghost use Rattle.working_out.specs.Rows.{bare_port, bare_hop, rested};
 ghost use Rattle.working_out.specs.Marks.{marked as at_progress};
 ghost use Rattle.working_out.specs.Rings.{marked};
 
@@ -21,10 +21,10 @@ pub enum Progress {
     PastLimit,
 }
 
-// A port, with its worst backlog in ns and its queue depth in frames, both 0 while they are not worked out. They stand beside
-// `progress` and not in its case `WorkedOut`, where each reader would need an arm that tells 0 for the other cases. The last
-// two fields are for the working-out: how far it has come with the port, and whether the port that is being tried for a ring
-// feeds it; marks in the rows, since no memory is taken from the heap for a set of ports.
+// A port, with its worst backlog in ns and its queue depth in frames, both 0 while they are not worked out. The last two fields
+// are marks of the working-out, at rest when it ends: how far it has come with the port, and whether the port that is being
+// tried for a ring feeds it. The figures are not in the case `WorkedOut` of `progress`, since they stay when that is put to
+// rest; and a set of ports would take memory from the heap.
 #[derive(Clone, Copy, Default)]
 pub struct PortRow {
     pub port: Port,
@@ -50,6 +50,13 @@ impl PortRow {
         ensures { result ≡ at_progress progress self }
     {
         PortRow { progress, ..self }
+    }
+
+    // This row, with the marks of a working-out at rest.
+    pub(crate) fn at_rest(self) -> PortRow
+        ensures { result ≡ rested self }
+    {
+        self.at(Progress::Open).marked(false)
     }
 
     // This row, marked as fed or not.

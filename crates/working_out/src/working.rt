@@ -4,7 +4,7 @@ ghost use Rattle.definitions.specs.declared.loads.Load.{Load as LoadRow};
 ghost use Rattle.definitions.specs.Network.{Records, WellFormed};
 ghost use Rattle.register.specs.Tables.{rows, room};
 ghost use Rattle.working_out.specs.declared.rows.LinkRow.{LinkRow as LinkRowIs};
-ghost use Rattle.working_out.specs.Rows.{net};
+ghost use Rattle.working_out.specs.Rows.{net, AtRest};
 ghost use Rattle.working_out.specs.Settling.{Setting, Stuck};
 ghost use Rattle.working_out.specs.Rings.{Remarked, RingTold};
 ghost use Rattle.working_out.specs.Works.{Cleared, Judged, Works};
@@ -52,7 +52,7 @@ fn judge(ports: &mut Table<PortRow>, hops: &[HopRow]) -> Result<(), Refusal>
 }
 
 // Works out the figures of the network in the tables by the method, over a load table with a place for every hop.
-// Every refusal leaves all figures zero.
+// Every refusal leaves all figures zero, and the marks of the working-out are at rest when it ends.
 #[tactic(auto, using(crate::proofs::Concluding::works_short, crate::proofs::Concluding::works_overloaded))]
 pub fn work_out<M: Method>(
     ports: &mut Table<PortRow>,
@@ -64,6 +64,7 @@ pub fn work_out<M: Method>(
     ensures load_places { length loads.new ≡ length loads.old }
     ensures ports_room { room ports.new ≡ room ports.old }
     ensures hops_room { room hops.new ≡ room hops.old }
+    ensures rests { AtRest (rows ports.new) }
     ensures works { WellFormed (net (rows ports.old) (rows links.now) (rows hops.old)) → Works (net (rows ports.old) (rows links.now) (rows hops.old)) (M.Method.worth method.now) (length loads.old) (rows ports.new) (rows links.now) (rows hops.new) result }
 {
     clear_figures(ports, hops);
@@ -75,8 +76,9 @@ pub fn work_out<M: Method>(
     }
     settle_all(ports, links, hops, method, loads);
     let judged = judge(ports, hops.all());
-    if judged.is_err() {
-        clear_figures(ports, hops);
+    match judged {
+        Ok(()) => edit_all(ports, PortRow::at_rest),
+        Err(_) => clear_figures(ports, hops),
     }
     judged
 }
