@@ -21,10 +21,10 @@ pub enum Progress {
     PastLimit,
 }
 
-// A port, with its worst backlog in ns and its queue depth in frames, both 0 while they are not worked out. The last two fields
-// are marks of the working-out, at rest when it ends: how far it has come with the port, and whether the port that is being
-// tried for a ring feeds it. The figures are not in the case `WorkedOut` of `progress`, since they stay when that is put to
-// rest; and a set of ports would take memory from the heap.
+// A port, with its worst backlog in ns and its queue depth in frames, which mean something while figures stand. The last two
+// fields are marks of the working-out, at rest when it ends: how far it has come with the port, and whether the port that is
+// being tried for a ring feeds it. The figures are not in the case `WorkedOut` of `progress`, which could not hold them when
+// that is put to rest: no plainer. A set of ports that are fed would take memory from the heap.
 #[derive(Clone, Copy, Default)]
 pub struct PortRow {
     pub port: Port,
