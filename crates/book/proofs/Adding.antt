@@ -11,7 +11,7 @@ use Rattle.definitions.specs.Network.{Records}
 use Rattle.definitions.specs.Entries.{Entry, port_entry, link_entry, hop_entry, entry_ground, entered, removal_ground, removed, no_records}
 use Rattle.definitions.specs.Figures.{Figures}
 use Rattle.definitions.specs.Calls.{State, Call, Answer, done, enter, remove_link, clear, count_ports, count_links, count_hops, port_at, link_at, hop_at, count, port_is, link_is, hop_is, opened, Fits, changed, DoesOrRefuses, Does}
-use Rattle.register.specs.Tables.{rows}
+use Rattle.register.specs.Registers.{rows}
 use Rattle.theory.proofs.SoundRuns.{every_run_is_sound, runs_push}
 use Rattle.working_out.specs.declared.rows.PortRow.{PortRow}
 use Rattle.working_out.specs.declared.rows.LinkRow.{LinkRow}

@@ -16,7 +16,7 @@ use Rattle.definitions.specs.Traffic.{end, unsent, held_count}
 use Rattle.definitions.specs.WorkingOut.{PortOf}
 use Rattle.definitions.specs.Calls.{Served, State, Call, Answer, refused, backlog_depth, earliest_latest_departure, delay_is, port_figures, hop_figures, delay_of, Fits, or_refused, Told, tell_port, tell_hop, tell_delay, Does}
 use Rattle.definitions.specs.Promises.{Agree, NoFrameLeavesLater, NoPortHoldsMore, ForwardSucceedsNoLarger}
-use Rattle.register.specs.Tables.{rows}
+use Rattle.register.specs.Registers.{rows}
 use Rattle.theory.proofs.Members.{some_in, kept_in}
 use Rattle.theory.proofs.KeptRules.{none_met}
 use Rattle.theory.proofs.Keys.{hop_port}

@@ -9,7 +9,7 @@ use Rattle.definitions.specs.Lists.{In, some}
 use Rattle.definitions.specs.Network.{port_before, link_before, most_ports, most_links}
 use Rattle.definitions.specs.Entries.{Places, port_entry, link_entry, entry_ground, entered, placed, rate_known, gap_known, lengths_kept, has_port, has_link, full}
 use Rattle.register.specs.declared.tables.NotInserted.TheVariants.{Present, Full}
-use Rattle.register.specs.Tables.{rows, room, by_key, Inserting}
+use Rattle.register.specs.Registers.{rows, room, by_key, Inserting}
 use Rattle.theory.proofs.Members.{in_some, in_map}
 use Rattle.working_out.specs.declared.rows.PortRow.{PortRow}
 use Rattle.working_out.specs.declared.rows.LinkRow.{LinkRow}

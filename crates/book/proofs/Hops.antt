@@ -11,7 +11,7 @@ use Rattle.definitions.specs.Lists.{some}
 use Rattle.definitions.specs.Network.{find_port, hop_before, most_hops}
 use Rattle.definitions.specs.Entries.{hop_entry, entry_ground, entered, first_met, hop_grounds, has_port, has_link, has_hop}
 use Rattle.register.specs.declared.tables.NotInserted.TheVariants.{Present}
-use Rattle.register.specs.Tables.{rows, room, Getting, Inserting}
+use Rattle.register.specs.Registers.{rows, room, Getting, Inserting}
 use Rattle.theory.proofs.Members.{in_map}
 use Rattle.theory.proofs.Lookups.{find_in}
 use Rattle.theory.proofs.KeptRules.{none_met}

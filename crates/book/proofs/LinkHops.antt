@@ -10,7 +10,7 @@ use Rattle.definitions.specs.declared.network.Hop.{Hop}
 use Rattle.definitions.specs.declared.refusals.Refusal.TheVariants.{LinkUnknown}
 use Rattle.definitions.specs.Lists.{every, some, ascending}
 use Rattle.definitions.specs.Entries.{begins, has_link, has_first_hop, removal_ground, removed}
-use Rattle.register.specs.Tables.{rows, room, by_key, TableBy, Found, Starts, Removing}
+use Rattle.register.specs.Registers.{rows, room, by_key, RegisterBy, Found, Starts, Removing}
 use Rattle.register.proofs.Sorted.{without_ascends, getD_in, none_under as absent_under}
 use Rattle.theory.proofs.Members.{all_in}
 use Rattle.theory.proofs.Lookups.{in_every}
@@ -147,7 +147,7 @@ first_hop_told b l from to st re =
 -- ## Removing
 
 -- a run within the table is removed
-pub run_gone : {R K : Type 0} (lt : K → K → Bool) (key : R → K) (from to : ℕ) (t u : TableBy lt key) (r : Bool) → Removing lt key from to t u r → from ≤ to → to ≤ length (rows t)
+pub run_gone : {R K : Type 0} (lt : K → K → Bool) (key : R → K) (from to : ℕ) (t u : RegisterBy lt key) (r : Bool) → Removing lt key from to t u r → from ≤ to → to ≤ length (rows t)
     → (room u ≡ room t) × (rows u ≡ take from (rows t) ++ drop to (rows t))
 run_gone lt key from to t u true (same, a, b, e) le most = (same, e)
 run_gone lt key from to t u false (same, n) le most = absurd (n (le, most))

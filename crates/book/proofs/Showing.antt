@@ -13,7 +13,7 @@ use Rattle.definitions.specs.Entries.{has_port, has_link, has_hop}
 use Rattle.definitions.specs.Figures.{Figures, departure, delay, depth, hops_of, earliest_at, latest_at}
 use Rattle.definitions.specs.Promises.{Agree}
 use Rattle.folds.specs.Folds.{Told}
-use Rattle.register.specs.Tables.{rows, by_key, Getting, Starts}
+use Rattle.register.specs.Registers.{rows, by_key, Getting, Starts}
 use Rattle.theory.proofs.Members.{all_in, in_all}
 use Rattle.theory.proofs.Lookups.{one_of_key}
 use Rattle.theory.proofs.Keys.{all_map_in}

@@ -7,7 +7,7 @@ use Rattle.definitions.specs.Methods.{Lawful}
 use Rattle.definitions.specs.Figures.{Figures, Settled}
 use Rattle.definitions.specs.WorkingOut.{Outcome, settles, short, overloaded, ring, past, refusal_of, WorksOut}
 use Rattle.definitions.specs.Calls.{Method, Served, Call, Answer, answered, work_out, worked, opened}
-use Rattle.register.specs.Tables.{rows}
+use Rattle.register.specs.Registers.{rows}
 use Rattle.theory.proofs.Variants.{none_some, some_same}
 use Rattle.theory.proofs.SoundRuns.{every_run_is_sound, runs_push}
 use Rattle.working_out.specs.Works.{Shown, FiguresLeft, refused_by, result_of, Works}

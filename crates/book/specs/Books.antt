@@ -21,7 +21,7 @@ use Rattle.definitions.specs.Network.{Records, WellFormed}
 use Rattle.definitions.specs.Entries.{Places, Entry, entry_ground, entered, first_met, hop_grounds}
 use Rattle.definitions.specs.Figures.{Figures, Settled, depth, earliest_at, latest_at}
 use Rattle.definitions.specs.Calls.{Served, State, Call, Answer, done, refused, opened, Runs}
-use Rattle.register.specs.Tables.{rows, room}
+use Rattle.register.specs.Registers.{rows, room}
 use Rattle.working_out.specs.declared.rows.PortRow.{PortRow}
 use Rattle.working_out.specs.declared.rows.LinkRow.{LinkRow}
 use Rattle.working_out.specs.declared.rows.HopRow.{HopRow}

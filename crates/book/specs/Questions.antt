@@ -31,7 +31,7 @@ use Rattle.definitions.specs.Figures.{Figures, FiguresOf, Settled, departure, de
 use Rattle.definitions.specs.Traffic.{Frame, Traffic, Keeps, end, unsent, held_count}
 use Rattle.definitions.specs.WorkingOut.{settles, WorksOut}
 use Rattle.definitions.specs.Calls.{Served, Call, Answer, refused, backlog_depth, earliest_latest_departure, delay_is}
-use Rattle.register.specs.Tables.{rows}
+use Rattle.register.specs.Registers.{rows}
 use Rattle.working_out.specs.declared.rows.PortRow.{PortRow}
 use Rattle.working_out.specs.declared.rows.HopRow.{HopRow}
 use Rattle.working_out.specs.Rows.{bare_port, bare_hop}

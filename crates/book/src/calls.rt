@@ -4,7 +4,7 @@ ghost use Rattle.definitions.specs.Entries.{Places, port_entry, link_entry, hop_
 ghost use Rattle.definitions.specs.Network.{find_port, suits};
 ghost use Rattle.std.specs.List.{slice_get};
 ghost use Rattle.definitions.specs.Calls.{enter, remove_link, clear, count_ports, count_links, count_hops, port_at, link_at, hop_at, done, count, port_is, link_is, hop_is};
-ghost use Rattle.register.specs.Tables.{rows, Starts};
+ghost use Rattle.register.specs.Registers.{rows, Starts};
 ghost use Rattle.working_out.specs.Keys.{place_before, hop_key};
 ghost use Rattle.working_out.specs.Works.{refused_by};
 ghost use Rattle.book.specs.Books.{records, places, unfit, Doing, Enters, Made, answer_of, Adds};
@@ -14,7 +14,8 @@ use crate::books::Book;
 use crate::link_runs::{has_first, run_end};
 use definitions::network::{Hop, Port, PortKind, VirtualLink};
 use definitions::refusals::Refusal;
-use register::tables::{NotInserted, Table};
+use register::registers::Register;
+use register::tables::NotInserted;
 use std::ops::Range;
 use working_out::rows::{HopRow, LinkRow, PortRow};
 
@@ -39,9 +40,9 @@ impl<'a> Book<'a> {
         ensures run { Made [] [] result }
     {
         Book {
-            ports: Table::open(ports),
-            links: Table::open(links),
-            hops: Table::open(hops),
+            ports: Register::open(ports),
+            links: Register::open(links),
+            hops: Register::open(hops),
             standing: false,
         }
     }

@@ -2,7 +2,7 @@
 // function has its outcome, the public one adds run and promise.
 ghost use Rattle.std.specs.Prelude.{◌≡◌};
 ghost use Rattle.definitions.specs.Calls.{port_figures, hop_figures, delay_of};
-ghost use Rattle.register.specs.Tables.{rows};
+ghost use Rattle.register.specs.Registers.{rows};
 ghost use Rattle.working_out.specs.Works.{refused_by};
 ghost use Rattle.book.specs.Books.{Adds};
 ghost use Rattle.book.specs.Questions.{port_row, row_departure, link_ground, told_port, told_hop, told_delay, port_answer, hop_answer, delay_answer, PortPromised, HopPromised, DelayPromised};
@@ -10,13 +10,13 @@ ghost use Rattle.book.specs.Questions.{port_row, row_departure, link_ground, tol
 use crate::books::Book;
 use definitions::refusals::Refusal;
 use folds::{Measure, largest};
-use register::tables::Table;
+use register::registers::Register;
 use working_out::rows::{HopRow, PortRow};
 
 // The latest end of a frame at a hop, after its release: its latest arrival and the backlog of its port.
 #[derive(Drop)]
 struct Departure<'b, 'a> {
-    ports: &'b Table<'a, PortRow>,
+    ports: &'b Register<'a, PortRow>,
 }
 
 impl<'b, 'a> Measure for Departure<'b, 'a> {
@@ -31,7 +31,7 @@ impl<'b, 'a> Measure for Departure<'b, 'a> {
 
 // The backlog of a port, 0 where there is no such port.
 #[tactic(auto, using(crate::proofs::Showing::backlog_is, crate::proofs::Showing::no_backlog))]
-fn backlog_at(ports: &Table<PortRow>, number: u8) -> u64
+fn backlog_at(ports: &Register<PortRow>, number: u8) -> u64
     ensures { result ≡ (port_row (rows ports.now) number).backlog }
 {
     ports.get(number).map_or(0, |row| row.backlog)

@@ -8,7 +8,7 @@ use crate::books::Book;
 use definitions::loads::Load;
 use definitions::refusals::Refusal;
 use methods::Method;
-use working_out::working::work_out;
+use working_out::working::work_out_registers;
 
 impl<'a> Book<'a> {
     // Works out all figures by the method, over a load table that has a place for every hop. A refusal leaves no
@@ -19,7 +19,14 @@ impl<'a> Book<'a> {
         ensures load_places { length loads.new ≡ length loads.old }
         ensures run { (law : Lawful (M.Method.worth method.now)) → Adds (work_out (record { worth = M.Method.worth method.now; lawful = law }) (length loads.old)) (answer_of result) self.old self.new }
     {
-        let worked = work_out(&mut self.ports, &self.links, &mut self.hops, method, loads);
+        let links = &self.links;
+        let worked = work_out_registers(
+            &mut self.ports,
+            &links.view(),
+            &mut self.hops,
+            method,
+            loads,
+        );
         self.standing = worked.is_ok();
         worked
     }

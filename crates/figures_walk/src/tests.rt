@@ -1,5 +1,7 @@
-// Worked figures and refusals, through the calls of a book.
+// Worked figures and refusals, through the calls of a book and over tables.
 use super::*;
+use register::tables::Table;
+use working_out::working;
 
 // A link of gap 1 ms from an end system over the given ports, all at 10 Mb/s.
 fn enter_chain(
@@ -160,4 +162,69 @@ fn figures_past_the_limit(rt: HostRuntime) {
         Err(Refusal::FigurePastLimit { port: 40 })
     );
     assert_eq!(rt; book.delay(1), Err(Refusal::NoFigures));
+}
+
+// The full port going on once more, over tables that are filled already; and over tables out of order.
+#[test]
+fn filled_tables_are_worked_out(rt: HostRuntime) {
+    let first = PortRow::new(Port::new(1, PortKind::End, 10));
+    let second = PortRow::new(Port::new(2, PortKind::Switch, 10));
+    let mut ports = [first, second];
+    let mut links = [LinkRow {
+        link: VirtualLink::new(1, 1, 64, 1_250),
+    }];
+    let mut hops = [
+        HopRow::new(Hop::new(1, 1, None)),
+        HopRow::new(Hop::new(1, 2, Some(1))),
+    ];
+    let mut loads = [Load::default(); 2];
+    let mut port_table = Table {
+        places: &mut ports,
+        len: 2,
+    };
+    let link_table = Table {
+        places: &mut links,
+        len: 1,
+    };
+    let mut hop_table = Table {
+        places: &mut hops,
+        len: 2,
+    };
+    assert_eq!(rt;
+        working::work_out(
+            &mut port_table,
+            &link_table,
+            &mut hop_table,
+            &Forward,
+            &mut loads
+        ),
+        Ok(())
+    );
+    let worked = port_table.at(1).unwrap_or_default();
+    assert_eq!(rt; (worked.backlog, worked.depth), (1_948_800, 3));
+    let arrived = hop_table.at(1).unwrap_or_default();
+    assert_eq!(rt; (arrived.earliest, arrived.latest), (67_200, 1_016_000));
+    // ports out of order: refused, and all figures are zero
+    let mut turned = [worked, first];
+    let mut out_of_order = Table {
+        places: &mut turned,
+        len: 2,
+    };
+    assert_eq!(rt;
+        working::work_out(
+            &mut out_of_order,
+            &link_table,
+            &mut hop_table,
+            &Forward,
+            &mut loads
+        ),
+        Err(Refusal::NoFigures)
+    );
+    let left = out_of_order.at(0).unwrap_or_default();
+    assert_eq!(rt; (left.port.number, left.backlog, left.depth), (2, 0, 0));
+    let arrived = hop_table.at(1).unwrap_or_default();
+    assert_eq!(rt;
+        (arrived.hop.port, arrived.earliest, arrived.latest),
+        (2, 0, 0)
+    );
 }

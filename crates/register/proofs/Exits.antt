@@ -1,40 +1,54 @@
 -- What each exit of a call on a table leaves.
-use Rattle.std.proofs.Common.{◌≡◌, ℕ, ◌-◌, ◌<◌, ◌≤◌, Bool, true, false, List, ◌++◌, length, get_or, take, drop, set, Some, Ok, Err, Ordering, Less, Equal, Greater, sym, ap, ◌∙◌, subst, arith, length-take}
+use Rattle.std.proofs.Common.{◌≡◌, ℕ, ◌+◌, ◌-◌, ◌<◌, ◌≤◌, min, Bool, true, false, List, ◌++◌, length, get_or, take, drop, set, Some, Ok, Err, Ordering, Less, Equal, Greater, sym, refl, ap, ◌∙◌, subst, arith, length-take}
 use lib.Seq.{take-set-lt}
 use Rattle.std.specs.List.{AllByRecursion, insert, slice_get}
 use Rattle.std.specs.Ordering.{is_ne}
 use Rattle.std.proofs.lemmas.Option.{get_or_from_slice_get}
 use Rattle.std.proofs.lemmas.Bool.{true≢false}
-use Rattle.std.proofs.lemmas.List.{length-take-le, take-append-le}
-use Rattle.definitions.specs.Lists.{In, ascending}
-use Rattle.definitions.specs.Entries.{placed}
-use Rattle.register.specs.Orders.{ExactlyOne, by_key, compare}
-use Rattle.register.specs.Tables.{Found}
+use Rattle.definitions.specs.Lists.{ascending}
+use Rattle.register.specs.declared.tables.Table.{Table}
+use Rattle.register.specs.declared.tables.NotInserted.TheVariants.{Present, Full}
+use Rattle.register.specs.Orders.{ExactlyOne, compare}
+use Rattle.register.specs.Tables.{rows, room, by_key, Ordered, Found, Kept, Inserting, Removing}
+use Rattle.register.proofs.Rows.{take_count}
 use Rattle.register.proofs.Searching.{compare_is, compare_says}
-use Rattle.register.proofs.Sorted.{getD_in, placed_is, inserted_ascends, none_there}
+use Rattle.register.proofs.Sorted.{getD_in, placed_is, inserted_ascends, none_there, without_ascends}
+
+-- an unchanged table
+pub kept_same : {R K : Type 0} (lt : K → K → Bool) (key : R → K) (t : Table R) → Kept lt key t t
+kept_same lt key t = record { same_room = refl; fits = λ h. h; order = λ o. o }
 
 -- ## Inserting
 
 module _ {R K : Type 0} (lt : K → K → Bool) (key : R → K) (one : (a b : K) → ExactlyOne (lt a b ≡ true) (a ≡ b) (lt b a ≡ true))
-    (rs : List R) (x : R) (k : K) (is : k ≡ key x) (i : ℕ) where
-  pub there : Found lt key rs k (Ok i) → (y : R) × In y rs × (key y ≡ key x)
-  there f = (get_or rs i x, getD_in rs i x f.0, f.1 x ∙ is)
+    (most : ℕ) (x : R) (k : K) (is : k ≡ key x) (t : Table R) (i : ℕ) where
+  pub present : (Ordered lt key t → Found lt key (rows t) k (Ok i)) → Ordered lt key t → Inserting lt key most x t t (Err Present)
+  present f o = (refl, (get_or (rows t) i x, getD_in (rows t) i x (f o).0, (f o).1 x ∙ is))
 
-  module _ (f : Found lt key rs k (Err i)) where
-    smaller : AllByRecursion (λ y. lt (key y) (key x) ≡ true) (take i rs)
-    smaller = subst (λ (z : K). AllByRecursion (λ y. lt (key y) z ≡ true) (take i rs)) is f.1
+  module _ (n : ℕ) (count : n ≡ length (rows t)) (f : Ordered lt key t → Found lt key (rows t) k (Err i)) (o : Ordered lt key t) where
+    smaller : AllByRecursion (λ y. lt (key y) (key x) ≡ true) (take i (rows t))
+    smaller = subst (λ (z : K). AllByRecursion (λ y. lt (key y) z ≡ true) (take i (rows t))) is (f o).1
 
-    larger : AllByRecursion (λ y. lt (key x) (key y) ≡ true) (drop i rs)
-    larger = subst (λ (z : K). AllByRecursion (λ y. lt z (key y) ≡ true) (drop i rs)) is f.2
+    larger : AllByRecursion (λ y. lt (key x) (key y) ≡ true) (drop i (rows t))
+    larger = subst (λ (z : K). AllByRecursion (λ y. lt z (key y) ≡ true) (drop i (rows t))) is (f o).2
 
-    pub not_there : (y : R) → In y rs → ¬ (key y ≡ key x)
-    not_there = none_there lt one key x rs i smaller larger
+    pub full_up : min (room t) most ≤ n → Inserting lt key most x t t (Err Full)
+    full_up no_place = (refl, omega arith, none_there lt one key x (rows t) i smaller larger)
 
-    pub is_placed : placed (by_key lt key) x rs ≡ insert rs i x
-    is_placed = placed_is lt one key x rs i smaller larger
+    one_more : (u : Table R) → rows u ≡ insert (rows t) i x → Kept lt key t u → n < min (room t) most → Inserting lt key most x t u (Ok tt)
+    one_more u new kept less =
+        (kept, omega arith, none_there lt one key x (rows t) i smaller larger, new ∙ sym (placed_is lt one key x (rows t) i smaller larger))
 
-    pub stays_ordered : ascending (by_key lt key) rs ≡ true → ascending (by_key lt key) (insert rs i x) ≡ true
-    stays_ordered = inserted_ascends lt one key x rs i smaller larger
+    in_order : (u : Table R) → rows u ≡ insert (rows t) i x → Ordered lt key u
+    in_order u new = ap (ascending (by_key lt key)) new ∙ inserted_ascends lt one key x (rows t) i smaller larger o
+
+  pub added : (n : ℕ) → n ≡ length (rows t) → (Ordered lt key t → Found lt key (rows t) k (Err i)) → (u : Table R) → n < min (room t) most → room u ≡ room t
+      → u.len ≡ n + 1 → take (n + 1) u.places.now ≡ insert (take n t.places.now) i x
+      → (Ordered lt key t → Inserting lt key most x t u (Ok tt)) × Kept lt key t u
+  added n count f u less same long h =
+      let new : rows u ≡ insert (rows t) i x = ap (λ m. take m u.places.now) long ∙ h ∙ ap (λ l. insert l i x) (take_count t n count) in
+      let kept : Kept lt key t u = record { same_room = same; fits = λ z. omega arith; order = λ o. in_order n count f o u new } in
+      ((λ o. one_more n count f o u new kept less), kept)
 
 -- ## Replacing
 
@@ -60,10 +74,19 @@ rows_set ps n i x l = take-set-lt n ps i x (omega (arith, length-take n ps))
 
 -- ## Removing
 
--- the used places after a run of them was turned to the end
-pub shrunk : {R : Type 0} (ps : List R) (n from to : ℕ) (zs : List R) → n ≤ length ps → length zs ≡ length (take n ps)
-    → take (length (take n ps) - (to - from)) zs ≡ take from (take n ps) ++ drop to (take n ps)
-    → take (n - (to - from)) (zs ++ drop n ps) ≡ take from (take n ps) ++ drop to (take n ps)
-shrunk ps n from to zs le size e =
-    let long = length-take-le n ps le in
-    take-append-le (n - (to - from)) zs (drop n ps) (omega arith) ∙ ap (λ k. take (k - (to - from)) zs) (sym long) ∙ e
+pub run_removed : {R K : Type 0} (lt : K → K → Bool) (key : R → K) (t u : Table R) (from to n : ℕ) → n ≡ length (rows t) → n ≤ room t → from ≤ to → to ≤ n
+    → room u ≡ room t → u.len ≡ n - (to - from)
+    → take (n - (to - from)) u.places.now ≡ take from (take n t.places.now) ++ drop to (take n t.places.now)
+    → Removing lt key from to t u true
+run_removed lt key t u from to n count bound le within same long h =
+    let new : rows u ≡ take from (rows t) ++ drop to (rows t)
+    = ap (λ m. take m u.places.now) long ∙ h ∙ ap (λ l. take from l ++ drop to l) (take_count t n count) in (
+      record {
+        same_room = same;
+        fits = λ z. omega arith;
+        order = λ z. ap (ascending (by_key lt key)) new ∙ without_ascends (by_key lt key) (rows t) from to le z;
+      },
+      le,
+      omega arith,
+      new,
+    )

@@ -33,7 +33,7 @@ module _ {X : Type 0} (lt : X → X → Bool) where
   every_at t (x ∷ xs) (suc i) d l h = every_at t xs i d (omega arith) (and_parts (t x) (every t xs) h).1
 
   -- of two places the lower has what is before
-  ascends_at : (xs : List X) (i j : ℕ) (d : X) → i < j → j < length xs → ascending lt xs ≡ true → lt (get_or xs i d) (get_or xs j d) ≡ true
+  pub ascends_at : (xs : List X) (i j : ℕ) (d : X) → i < j → j < length xs → ascending lt xs ≡ true → lt (get_or xs i d) (get_or xs j d) ≡ true
   ascends_at [] i j d l m h = absurd (omega arith)
   ascends_at (x ∷ xs) i zero d l m h = absurd (omega arith)
   ascends_at (x ∷ xs) zero (suc j) d l m h = every_at (lt x) xs j d (omega arith) (and_parts (every (lt x) xs) (ascending lt xs) h).0

@@ -1,49 +1,29 @@
--- What turning a part of a list by one place leaves, and what a list holds when its first items are changed.
-use Rattle.std.proofs.Common.{◌≡◌, ℕ, ◌+◌, ◌-◌, ◌<◌, ◌≤◌, List, [], ◌∷◌, ◌++◌, length, take, drop, set, sym, ap, ◌∙◌, subst, arith, length-set}
-use borrow.Rule.Slice.PartMut.{put_mid, mid_of}
-use Rattle.std.specs.List.{insert}
-use Rattle.std.proofs.lemmas.List.{take_more_set, drop-append-le, length-take-le, length-drop, length_push, take_all, drop_all, take-take, take_at, drop_at, append-nil, take-append-le}
-use Rattle.std.proofs.lemmas.List.Edits.{length-insert}
+-- What turning a part of a list by some places leaves.
+use Rattle.std.proofs.Common.{◌≡◌, ℕ, ◌+◌, ◌-◌, ◌<◌, ◌≤◌, List, [], ◌∷◌, ◌++◌, length, take, drop, set, sym, ap, ◌∙◌, arith, length-set}
+use borrow.Rule.Slice.PartMut.{put_mid}
+use Rattle.std.specs.List.{between, insert}
+use Rattle.std.proofs.lemmas.List.{take_more_set, drop-append-le, length-take-le, length-drop, length_push, take_at, drop_at, take-take, take-set-le}
+use Rattle.std.proofs.lemmas.Slice.{between_is, take-put_mid}
 
--- an item at the end is turned to a place before
-module _ {X : Type 0} (l : List X) (i : ℕ) (x : X) (le : i ≤ length l) where
-  turned_back : (k : ℕ) → k ≡ length (l ++ x ∷ []) - i → (zs : List X)
-      → zs ≡ drop (length (mid_of i k (l ++ x ∷ [])) - 1) (mid_of i k (l ++ x ∷ [])) ++ take (length (mid_of i k (l ++ x ∷ [])) - 1) (mid_of i k (l ++ x ∷ []))
-      → put_mid i k (l ++ x ∷ []) zs ≡ insert l i x
-  turned_back k size zs e =
-      let q = drop i l in
-      let all : length (drop i (l ++ x ∷ [])) ≤ k = omega (arith, length-drop i (l ++ x ∷ [])) in
-      let mid : mid_of i k (l ++ x ∷ []) ≡ q ++ x ∷ [] = take_all k (drop i (l ++ x ∷ [])) all ∙ drop-append-le i l (x ∷ []) le in
-      let long : length (q ++ x ∷ []) - 1 ≡ length q = omega (arith, length_push q x) in
-      let turn : List X → List X = λ p. drop (length p - 1) p ++ take (length p - 1) p in
-      let at-end : (n : ℕ) → n ≡ length q → drop n (q ++ x ∷ []) ++ take n (q ++ x ∷ []) ≡ x ∷ q
-      = λ n h. ap (λ p. p ++ take n (q ++ x ∷ [])) (drop_at q (x ∷ []) n (sym h)) ∙ ap (λ p. x ∷ p) (take_at q (x ∷ []) n (sym h)) in
-      let z : zs ≡ x ∷ q = e ∙ ap turn mid ∙ at-end (length (q ++ x ∷ []) - 1) long in
-      ap (λ p. p ++ (zs ++ drop k (drop i (l ++ x ∷ [])))) (take-append-le i l (x ∷ []) le)
-      ∙ ap (λ p. take i l ++ (zs ++ p)) (drop_all k (drop i (l ++ x ∷ [])) all)
-      ∙ ap (λ p. take i l ++ p) (append-nil zs ∙ z)
+module _ {X : Type 0} (xs : List X) (i n : ℕ) (x : X) (le : i ≤ n) (lt : n < length xs) where
+  -- the part that is turned: the last of it is the new item
+  part_is : between i (n + 1) (set xs n x) ≡ drop i (take n xs) ++ x ∷ []
+  part_is =
+      let long = length-take-le n xs (omega arith) in
+      between_is (set xs n x) i (n + 1) ∙ ap (drop i) (take_more_set xs n x lt) ∙ drop-append-le i (take n xs) (x ∷ []) (omega arith)
 
-module _ {X : Type 0} (xs : List X) (i : ℕ) (x : X) (lt : i < length xs) where
   pub put_in : (zs : List X)
-      → (let ys = set xs (length xs - 1) x in zs ≡ drop (length (mid_of i (length ys - i) ys) - 1) (mid_of i (length ys - i) ys) ++ take (length (mid_of i (length ys - i) ys) - 1) (mid_of i (length ys - i) ys))
-      → put_mid i (length (set xs (length xs - 1) x) - i) (set xs (length xs - 1) x) zs ≡ insert (take (length xs - 1) xs) i x
-  put_in zs =
-      let n = length xs - 1 in
-      let l = take n xs in
-      let ys : set xs n x ≡ l ++ x ∷ []
-      = sym (subst (λ m. take m (set xs n x) ≡ set xs n x) {x = length xs} (omega arith) (take_all (length xs) (set xs n x) (omega (arith, length-set xs n x)))) ∙ take_more_set xs n x (omega arith) in
-      subst (λ (ys : List X). zs ≡ drop (length (mid_of i (length ys - i) ys) - 1) (mid_of i (length ys - i) ys) ++ take (length (mid_of i (length ys - i) ys) - 1) (mid_of i (length ys - i) ys)
-      → put_mid i (length ys - i) ys zs ≡ insert l i x) (sym ys)
-      (turned_back l i x (omega (arith, length-take-le n xs (omega arith))) (length (l ++ x ∷ []) - i) (omega arith) zs)
-
--- a list whose first n + 1 items had an item put in, the last of them falling out
-pub grown : {X : Type 0} (ps : List X) (n i : ℕ) (x : X) (zs : List X) → n < length ps → i ≤ n
-    → zs ≡ insert (take (length (take (n + 1) ps) - 1) (take (n + 1) ps)) i x
-    → take (n + 1) (zs ++ drop (n + 1) ps) ≡ insert (take n ps) i x
-grown ps n i x zs lt le e =
-    let long : length (take (n + 1) ps) - 1 ≡ n = omega (arith, length-take-le (n + 1) ps (omega arith)) in
-    let same : take (length (take (n + 1) ps) - 1) (take (n + 1) ps) ≡ take n ps
-    = ap (λ k. take k (take (n + 1) ps)) long ∙ take-take n (n + 1) ps (omega arith) in
-    let is : zs ≡ insert (take n ps) i x = e ∙ ap (λ l. insert l i x) same in
-    let within = length-take-le n ps (omega arith) in
-    take_at zs (drop (n + 1) ps) (n + 1) (omega (arith, ap length is, length-insert (take n ps) i x (omega arith))) ∙ is
+      → zs ≡ drop (length (between i (n + 1) (set xs n x)) - 1) (between i (n + 1) (set xs n x)) ++ take (length (between i (n + 1) (set xs n x)) - 1) (between i (n + 1) (set xs n x))
+      → take (n + 1) (put_mid i (n + 1 - i) (set xs n x) zs) ≡ insert (take n xs) i x
+  put_in zs e =
+      let ys = drop i (take n xs) in
+      let long : length ys ≡ n - i = omega (arith, length-drop i (take n xs), length-take-le n xs (omega arith)) in
+      let m : length (ys ++ x ∷ []) - 1 ≡ length ys = omega (arith, length_push ys x) in
+      let turn : List X → List X = λ l. drop (length l - 1) l ++ take (length l - 1) l in
+      let at-end : (k : ℕ) → k ≡ length ys → drop k (ys ++ x ∷ []) ++ take k (ys ++ x ∷ []) ≡ x ∷ ys
+      = λ k h. ap (λ l. l ++ take k (ys ++ x ∷ [])) (drop_at ys (x ∷ []) k (sym h)) ∙ ap (λ l. x ∷ l) (take_at ys (x ∷ []) k (sym h)) in
+      let z : zs ≡ x ∷ ys = e ∙ ap turn part_is ∙ at-end (length (ys ++ x ∷ []) - 1) m in
+      let size : n + 1 ≡ i + length zs = omega (arith, ap length z) in
+      take-put_mid i (n + 1 - i) (set xs n x) zs (n + 1) size (omega (arith, length-set xs n x))
+      ∙ ap (λ l. l ++ zs) (take-set-le i xs n x le ∙ sym (take-take i n xs le))
+      ∙ ap (λ l. take i (take n xs) ++ l) z

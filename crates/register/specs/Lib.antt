@@ -1,3 +1,4 @@
 pub mod Orders
 pub mod Tables
+pub mod Registers
 pub mod Pairs

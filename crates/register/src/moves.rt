@@ -1,22 +1,25 @@
-// Moving the elements of a slice.
-ghost use Rattle.std.specs.Prelude.{◌≡◌, ◌-◌, ◌<◌, ◌≤◌, ◌++◌, length, take, drop};
+// Moving the elements of a slice whose first `count` places are in use.
+ghost use Rattle.std.specs.Prelude.{◌≡◌, ◌+◌, ◌-◌, ◌<◌, ◌≤◌, ◌++◌, length, take, drop};
 ghost use Rattle.std.specs.List.{insert};
 
-// Puts an item in at a place; those from there on move up by one, and the last falls out.
-pub(crate) fn insert_at<T: Copy>(places: &mut [T], place: usize, item: T)
-    requires { place < length places.old }
-    ensures { places.new ≡ insert (take (length places.old - 1) places.old) place item }
+// Puts an item in at a place; those from there on move up by one. At the end none moves.
+pub(crate) fn insert_at<T: Copy>(places: &mut [T], place: usize, count: usize, item: T)
+    requires within { place ≤ count }
+    requires room { count < length places.old }
+    ensures { take (count + 1) places.new ≡ insert (take count places.old) place item }
 {
-    let last = places.len() - 1;
-    places[last] = item;
-    places[place..].rotate_right(1);
+    places[count] = item;
+    let part = &mut places[place..count + 1];
+    part.rotate_right(1);
 }
 
-// Takes the items from one place to before another to the end; those after them move down.
-pub(crate) fn remove_between<T: Copy>(places: &mut [T], from: usize, to: usize)
+// Takes out the items from one place to before another; those after them move down.
+pub(crate) fn remove_between<T: Copy>(places: &mut [T], from: usize, to: usize, count: usize)
     requires run { from ≤ to }
-    requires within { to ≤ length places.old }
-    ensures { take (length places.old - (to - from)) places.new ≡ take from places.old ++ drop to places.old }
+    requires within { to ≤ count }
+    requires room { count ≤ length places.old }
+    ensures { take (count - (to - from)) places.new ≡ take from (take count places.old) ++ drop to (take count places.old) }
 {
-    places[from..].rotate_left(to - from);
+    let part = &mut places[from..count];
+    part.rotate_left(to - from);
 }

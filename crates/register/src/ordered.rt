@@ -1,26 +1,19 @@
-// What can be done with an ordered table.
+// What can be done with a table. A call on a table that is not ordered is safe; that the answer of a search is right, and that
+// the order is kept, is promised where there is an order.
 ghost use Rattle.std.specs.Prelude.{◌≡◌, ◌+◌, ◌≤◌, [], length};
 ghost use Rattle.std.specs.List.{slice_get};
-ghost use Rattle.register.specs.Orders.{compare};
+ghost use Rattle.register.specs.Tables.{rows, room, Ordered, Found, Starts, Getting, Within, Kept, Inserting, Replacing, Removing};
 
-use crate::keys::{Key, Keyed};
+use crate::keys::Keyed;
 use crate::moves::{insert_at, remove_between};
+use crate::searches::{find_in, get_in, stands, start_in};
 use crate::tables::{NotInserted, Table};
-use std::cmp::Ordering;
-
-// How the key of a record stands to this one.
-fn stands<R: Keyed>(row: &R, key: R::K) -> Ordering
-    ensures { result ≡ compare R.K.Key.before (R.Keyed.key row.now) key }
-{
-    row.key().against(key)
-}
 
 impl<'a, R: Keyed> Table<'a, R> {
-    ghost use Rattle.register.specs.Tables.{rows, room, Found, Starts, Getting, Within, Inserting, Replacing, Removing};
-
     // An empty table over the places.
     pub fn open(places: &'a mut [R]) -> Table<'a, R>
         ensures empty { rows result ≡ [] }
+        ensures fits { result.len ≤ room result }
         ensures all_places { room result ≡ length places.old }
     {
         Table { places, len: 0 }
@@ -31,14 +24,14 @@ impl<'a, R: Keyed> Table<'a, R> {
         ensures is { result ≡ length (rows self.now) }
         ensures bound { result ≤ room self.now }
     {
-        self.all().len()
+        self.len.min(self.places.len())
     }
 
     // The records, in order.
     pub fn all(&self) -> &[R]
         ensures { result.now ≡ rows self.now }
     {
-        &self.places[..self.len]
+        &self.places[..self.count()]
     }
 
     // The record at a place, counted from 0; none past the last.
@@ -50,42 +43,40 @@ impl<'a, R: Keyed> Table<'a, R> {
 
     // The place of the record under the key, or the place where one would be put in.
     pub fn find(&self, key: R::K) -> Result<usize, usize>
-        ensures found { Found R.K.Key.before R.Keyed.key (rows self.now) key result }
+        ensures found { Ordered R.K.Key.before R.Keyed.key self.now → Found R.K.Key.before R.Keyed.key (rows self.now) key result }
         ensures within { Within (length (rows self.now)) result }
     {
-        self.all().binary_search_by(|record| stands(record, key))
+        find_in(self.all(), key)
     }
 
     // The place from which on no key is before this one.
     pub fn start_of(&self, key: R::K) -> usize
-        ensures { Starts R.K.Key.before R.Keyed.key (rows self.now) key result }
+        ensures { Ordered R.K.Key.before R.Keyed.key self.now → Starts R.K.Key.before R.Keyed.key (rows self.now) key result }
     {
-        self.all()
-            .partition_point(|record| stands(record, key).is_lt())
+        start_in(self.all(), key)
     }
 
     // The record under the key, if there is one.
     pub fn get(&self, key: R::K) -> Option<R>
-        ensures { Getting R.Keyed.key (rows self.now) key result }
+        ensures { Ordered R.K.Key.before R.Keyed.key self.now → Getting R.Keyed.key (rows self.now) key result }
     {
-        let place = self.find(key).ok()?;
-        self.at(place)
+        get_in(self.all(), key)
     }
 
     // Puts a record in its place among the others, unless one under its key is there or the table is full:
     // it has no place left, or holds as many records as it may.
     pub fn insert(&mut self, record: R, most: usize) -> Result<(), NotInserted>
-        ensures inserts { Inserting R.K.Key.before R.Keyed.key most «record» self.old self.new result }
-        ensures same_room { room self.new ≡ room self.old }
+        ensures inserts { Ordered R.K.Key.before R.Keyed.key self.old → Inserting R.K.Key.before R.Keyed.key most «record» self.old self.new result }
+        ensures kept { Kept R.K.Key.before R.Keyed.key self.old self.new }
     {
         let Err(place) = self.find(record.key()) else {
             return Err(NotInserted::Present);
         };
-        let count = self.len;
+        let count = self.count();
         if count >= self.places.len().min(most) {
             return Err(NotInserted::Full);
         }
-        insert_at(&mut self.places[..count + 1], place, record);
+        insert_at(self.places, place, count, record);
         self.len = count + 1;
         Ok(())
     }
@@ -108,11 +99,11 @@ impl<'a, R: Keyed> Table<'a, R> {
     pub fn remove_run(&mut self, from: usize, to: usize) -> bool
         ensures { Removing R.K.Key.before R.Keyed.key from to self.old self.new result }
     {
-        let count = self.len;
+        let count = self.count();
         if to < from || count < to {
             return false;
         }
-        remove_between(&mut self.places[..count], from, to);
+        remove_between(self.places, from, to, count);
         self.len = count - (to - from);
         true
     }
@@ -121,7 +112,7 @@ impl<'a, R: Keyed> Table<'a, R> {
     pub fn remove_one(&mut self, place: usize) -> bool
         ensures { Removing R.K.Key.before R.Keyed.key place (place + 1) self.old self.new result }
     {
-        if place >= self.len {
+        if place >= self.count() {
             return false;
         }
         self.remove_run(place, place + 1)
@@ -130,7 +121,7 @@ impl<'a, R: Keyed> Table<'a, R> {
     // Removes all records.
     pub fn clear(&mut self)
         ensures empty { rows self.new ≡ [] }
-        ensures same_room { room self.new ≡ room self.old }
+        ensures kept { Kept R.K.Key.before R.Keyed.key self.old self.new }
     {
         self.len = 0;
     }

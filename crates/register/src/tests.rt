@@ -1,5 +1,7 @@
 use crate::keys::*;
+use crate::registers::Register;
 use crate::tables::*;
+use crate::views::View;
 
 #[derive(Clone, Copy, Drop, PartialEq, Debug)]
 struct Mark {
@@ -150,4 +152,72 @@ fn only_the_same_key_is_replaced(rt: HostRuntime) {
             worth: 8,
         })
     );
+}
+
+#[test]
+fn a_table_over_marks_that_are_there(rt: HostRuntime) {
+    let mut places = [numbered(1), numbered(2), numbered(5), numbered(0)];
+    let mut table = Table {
+        places: &mut places,
+        len: 3,
+    };
+    assert_eq!(rt; table.count(), 3);
+    assert_eq!(rt; table.find(2), Ok(1));
+    assert_eq!(rt; table.find(3), Err(2));
+    assert_eq!(rt; table.start_of(2), 1);
+    assert_eq!(rt; table.get(5), Some(numbered(5)));
+    assert_eq!(rt; table.insert(numbered(3), 99), Ok(()));
+    assert!(rt; holds(&table, &[1, 2, 3, 5]));
+}
+
+#[test]
+fn a_table_out_of_order_is_safe(rt: HostRuntime) {
+    let mut places = [numbered(5), numbered(1)];
+    let mut table = Table {
+        places: &mut places,
+        len: 9,
+    };
+    assert!(rt; Register::take(&mut table).is_none());
+    assert!(rt; View::of(table.all()).is_none());
+    assert!(rt; holds(&table, &[5, 1]));
+    assert_eq!(rt; table.at(2), None);
+    assert!(rt; !table.remove_run(0, 3));
+    assert!(rt; table.remove_run(0, 1));
+    assert!(rt; holds(&table, &[1]));
+}
+
+#[test]
+fn a_register_keeps_order(rt: HostRuntime) {
+    let mut places = [numbered(0); 3];
+    let mut register = Register::open(&mut places);
+    assert_eq!(rt; register.insert(numbered(7), 99), Ok(()));
+    assert_eq!(rt; register.insert(numbered(3), 99), Ok(()));
+    assert_eq!(rt; register.insert(numbered(3), 99), Err(NotInserted::Present));
+    assert_eq!(rt; register.insert(numbered(5), 2), Err(NotInserted::Full));
+    assert_eq!(rt; register.at(0), Some(numbered(3)));
+    assert_eq!(rt; register.find(7), Ok(1));
+    assert_eq!(rt; register.start_of(4), 1);
+    assert_eq!(rt; register.view().get(7), Some(numbered(7)));
+    assert_eq!(rt; register.view().get(5), None);
+    assert!(rt; !register.replace(0, numbered(7)));
+    assert!(rt; register.replace(1, numbered(7)));
+    assert!(rt; register.remove_one(0));
+    assert_eq!(rt; register.count(), 1);
+    assert!(rt; !register.remove_run(0, 2));
+    register.clear();
+    assert_eq!(rt; register.get(7), None);
+}
+
+#[test]
+fn a_register_is_given_back(rt: HostRuntime) {
+    let mut places = [numbered(1), numbered(4), numbered(0)];
+    let mut table = Table {
+        places: &mut places,
+        len: 2,
+    };
+    if let Some(mut register) = Register::take(&mut table) {
+        assert_eq!(rt; register.insert(numbered(2), 99), Ok(()));
+        register.give_back(&mut table);
+    }
+    assert!(rt; holds(&table, &[1, 2, 4]));
 }

@@ -2,7 +2,7 @@
 use Rattle.std.proofs.Common.{◌≡◌, ℕ, true, List, Option, Some, None, MatchOption, inr, arith}
 use Rattle.definitions.specs.declared.network.Hop.{Hop}
 use Rattle.definitions.specs.Lists.{ascending}
-use Rattle.register.specs.Tables.{by_key, Getting}
+use Rattle.register.specs.Registers.{by_key, Getting}
 use Rattle.working_out.specs.declared.rows.Progress.TheVariants.{WorkedOut}
 use Rattle.working_out.specs.declared.rows.PortRow.{PortRow}
 use Rattle.working_out.specs.declared.rows.LinkRow.{LinkRow}

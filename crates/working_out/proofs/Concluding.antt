@@ -9,7 +9,7 @@ use Rattle.definitions.specs.Methods.{Lawful}
 use Rattle.definitions.specs.Network.{Records, WellFormed}
 use Rattle.definitions.specs.Figures.{Figures, FiguresOf, Settled, OverloadedAt, still, depth, loads}
 use Rattle.definitions.specs.WorkingOut.{Outcome, settles, short, overloaded, ring, past}
-use Rattle.register.specs.Tables.{rows}
+use Rattle.register.specs.Registers.{rows, viewed}
 use Rattle.theory.proofs.Members.{all_in, in_all}
 use Rattle.theory.proofs.Exist.{figures_exist}
 use Rattle.working_out.specs.declared.rows.Progress.TheVariants.{Open, PastLimit}
@@ -119,14 +119,14 @@ module _ (t : Ports) (h : Hops) (u : Ports) (k : Hops) (c : Cleared t h u k) whe
   cleared_open x i = let (y, j, e) = bare_in x i in cc
 
   -- over cleared rows, overload is told of the records
-  pub overload_told : (r : Records) → WellFormed r → (l : Links) → Holds r (rows u) (rows l) (rows k) → (a : Option ℕ)
-      → (FirstPort (OverloadedRow (rows l) (rows k)) (rows u) a) → LowestTold r (OverloadedAt r) a
+  pub overload_told : (r : Records) → WellFormed r → (l : Links) → Holds r (rows u) (viewed l) (rows k) → (a : Option ℕ)
+      → (FirstPort (OverloadedRow (viewed l) (rows k)) (rows u) a) → LowestTold r (OverloadedAt r) a
   overload_told r wf l held a first =
-      first_lowest r (OverloadedAt r) (OverloadedRow (rows l) (rows k)) (rows u) u.ascends held.ports
+      first_lowest r (OverloadedAt r) (OverloadedRow (viewed l) (rows k)) (rows u) u.ascends held.ports
       (λ x i o. subst Overloaded (same x i) o) (λ x i o. subst Overloaded (sym (same x i)) o) a first
     where
-      same : (x : PortRow) → In x (rows u) → loads_at (rows l) x.port (rows k) ≡ loads r still x.port.number
-      same x i = loads_are r wf still (rows u) (rows l) (rows k) held x i
+      same : (x : PortRow) → In x (rows u) → loads_at (viewed l) x.port (rows k) ≡ loads r still x.port.number
+      same x i = loads_are r wf still (rows u) (viewed l) (rows k) held x i
           (λ y j at. let (z, m, e) = bare_hop_in y j in (cc, cc))
 
 -- the marks of all rows are put to rest, and figures stay
@@ -154,47 +154,47 @@ module _ (v w : Ports) (e : EditsAll number_before port_key rested v w) where
     hops = before.hops;
   }
 
-module _ (worth : List Load → ℕ) (law : Lawful worth) (n : ℕ) (p : Ports) (l : Links) (h : Hops) (wf : WellFormed (net (rows p) (rows l) (rows h))) where
+module _ (worth : List Load → ℕ) (law : Lawful worth) (n : ℕ) (p : Ports) (l : Links) (h : Hops) (wf : WellFormed (net (rows p) (viewed l) (rows h))) where
   abbrev r : Records
-  r = net (rows p) (rows l) (rows h)
+  r = net (rows p) (viewed l) (rows h)
 
   module _ (q : Ports) (k : Hops) (c : Cleared p h q k) where
-    held : Holds (net (rows p) (rows l) (rows h)) (rows q) (rows l) (rows k)
-    held = cleared_held p h q k c (net (rows p) (rows l) (rows h)) (rows l) record { ports = refl; links = refl; hops = refl }
+    held : Holds (net (rows p) (viewed l) (rows h)) (rows q) (viewed l) (rows k)
+    held = cleared_held p h q k c (net (rows p) (viewed l) (rows h)) (viewed l) record { ports = refl; links = refl; hops = refl }
 
-    pub works_short : n < length (rows k) → Works r worth n (rows q) (rows l) (rows k) (Err LoadTableShort)
+    pub works_short : n < length (rows k) → Works r worth n (rows q) (viewed l) (rows k) (Err LoadTableShort)
     works_short less = record { outcome = short; comes = omega (arith, less, hop_count held); answer = refl; held = held; left = cleared_zero p h q k c }
 
     module _ (room : length (rows k) ≤ n) where
-      told : (a : Option ℕ) → (FirstPort (OverloadedRow (rows l) (rows k)) (rows q) a) → LowestTold r (OverloadedAt r) a
+      told : (a : Option ℕ) → (FirstPort (OverloadedRow (viewed l) (rows k)) (rows q) a) → LowestTold r (OverloadedAt r) a
       told = overload_told p h q k c r wf l held
 
-      pub works_overloaded : (x : ℕ) → (FirstPort (OverloadedRow (rows l) (rows k)) (rows q) (Some x))
-          → Works r worth n (rows q) (rows l) (rows k) (Err (PortOverloaded x))
+      pub works_overloaded : (x : ℕ) → (FirstPort (OverloadedRow (viewed l) (rows k)) (rows q) (Some x))
+          → Works r worth n (rows q) (viewed l) (rows k) (Err (PortOverloaded x))
       works_overloaded x first = record { outcome = overloaded x; comes = (omega (arith, room, hop_count held), told (Some x) first); answer = refl; held = held; left = cleared_zero p h q k c }
 
-      module _ (first : FirstPort (OverloadedRow (rows l) (rows k)) (rows q) None) (u v : Ports) (m : Hops) (o : Result (Unit {0}) Refusal)
-          (stuck : (r : Records) → Setting r worth → Worked r worth (rows q) (rows l) (rows k) → Stuck r worth (rows u) (rows l) (rows m))
+      module _ (first : FirstPort (OverloadedRow (viewed l) (rows k)) (rows q) None) (u v : Ports) (m : Hops) (o : Result (Unit {0}) Refusal)
+          (stuck : (r : Records) → Setting r worth → Worked r worth (rows q) (viewed l) (rows k) → Stuck r worth (rows u) (viewed l) (rows m))
           (judged : (r : Records) (worth : List Load → ℕ) (ls : List LinkRow) → Setting r worth → Stuck r worth (rows u) ls (rows m) → Judged r worth (rows v) ls (rows m) o) where
-        verdict : Judged r worth (rows v) (rows l) (rows m) o
+        verdict : Judged r worth (rows v) (viewed l) (rows m) o
         verdict =
             let s : Setting r worth = record { well_formed = wf; lawful = law; carried = told None first } in
-            let start = unworked r worth (rows q) (rows l) (rows k) held (cleared_open p h q k c) in
-            judged r worth (rows l) s (stuck r s start)
+            let start = unworked r worth (rows q) (viewed l) (rows k) held (cleared_open p h q k c) in
+            judged r worth (viewed l) s (stuck r s start)
 
-        pub works_refused : is_err o ≡ true → (w : Ports) (j : Hops) → Cleared v m w j → Works r worth n (rows w) (rows l) (rows j) o
+        pub works_refused : is_err o ≡ true → (w : Ports) (j : Hops) → Cleared v m w j → Works r worth n (rows w) (viewed l) (rows j) o
         works_refused is w j again = record {
           outcome = verdict.outcome;
           comes = verdict.comes n (omega (arith, room, hop_count held));
           answer = verdict.told;
-          held = cleared_held v m w j again r (rows l) verdict.held;
+          held = cleared_held v m w j again r (viewed l) verdict.held;
           left = zero_left verdict.outcome (sym (ap is_err verdict.told) ∙ is);
         }
           where
             zero_left : (x : Outcome) → is_err (result_of x) ≡ true → FiguresLeft r worth (rows w) (rows j) x
             zero_left x f = grind (arith, cleared_zero v m w j again)
 
-        pub works_settled : is_err o ≡ false → (w : Ports) → EditsAll number_before port_key rested v w → Works r worth n (rows w) (rows l) (rows m) o
+        pub works_settled : is_err o ≡ false → (w : Ports) → EditsAll number_before port_key rested v w → Works r worth n (rows w) (viewed l) (rows m) o
         works_settled is w e =
             let well : o ≡ Ok tt = grind arith in
             let (G, done, figures) = verdict.shown well in
@@ -202,6 +202,6 @@ module _ (worth : List Load → ℕ) (law : Lawful worth) (n : ℕ) (p : Ports) 
               outcome = settles;
               comes = (omega (arith, room, hop_count held), (G, done));
               answer = well;
-              held = rested_held v w e r (rows l) (rows m) verdict.held;
+              held = rested_held v w e r (viewed l) (rows m) verdict.held;
               left = (G, done, rested_shown v w e r G (rows m) figures);
             }

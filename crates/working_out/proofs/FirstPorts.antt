@@ -5,7 +5,7 @@ use Rattle.definitions.specs.declared.network.Port.{Port}
 use Rattle.definitions.specs.Lists.{In, ascending}
 use Rattle.definitions.specs.Network.{Records}
 use Rattle.theory.proofs.Members.{in_map, in_all}
-use Rattle.register.specs.Tables.{by_key}
+use Rattle.register.specs.Registers.{by_key}
 use Rattle.working_out.specs.declared.rows.PortRow.{PortRow}
 use Rattle.working_out.specs.Keys.{number_before, port_key}
 use Rattle.working_out.specs.Gathering.{FirstIs, FirstPort}

@@ -6,7 +6,7 @@ use Rattle.std.proofs.lemmas.List.{drop_more, take-append-drop}
 use Rattle.std.proofs.lemmas.Bool.Decides.{nat_tests}
 use Rattle.definitions.specs.declared.network.VirtualLink.{VirtualLink}
 use Rattle.definitions.specs.Lists.{ascending}
-use Rattle.register.specs.Tables.{by_key, Getting}
+use Rattle.register.specs.Registers.{by_key, Getting}
 use Rattle.register.proofs.Searching.{all_before}
 use Rattle.theory.proofs.Members.{in_map}
 use Rattle.theory.proofs.Lookups.{find_in}

@@ -20,3 +20,4 @@ pub mod FirstPorts
 pub mod RingFound
 pub mod Judging
 pub mod Concluding
+pub mod Zeroing

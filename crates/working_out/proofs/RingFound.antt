@@ -11,7 +11,7 @@ use Rattle.definitions.specs.Lists.{In}
 use Rattle.definitions.specs.Network.{Records, WellFormed, Feeds, direct, through}
 use Rattle.theory.proofs.Members.{in_map}
 use Rattle.theory.proofs.Keys.{hop_port}
-use Rattle.register.specs.Tables.{rows}
+use Rattle.register.specs.Registers.{rows}
 use Rattle.working_out.specs.declared.rows.PortRow.{PortRow}
 use Rattle.working_out.specs.declared.rows.HopRow.{HopRow}
 use Rattle.working_out.specs.Keys.{port_key, Ports}

@@ -6,7 +6,7 @@ use Rattle.std.proofs.ByRecursion.{All-push}
 use Rattle.definitions.specs.Lists.{In, ascending}
 use Rattle.definitions.specs.Network.{direct, through}
 use Rattle.theory.proofs.Members.{in_map, in_all, all_in, total_map, total_less}
-use Rattle.register.specs.Tables.{rows, by_key, Getting}
+use Rattle.register.specs.Registers.{rows, by_key, Getting}
 use Rattle.working_out.specs.declared.rows.PortRow.{PortRow}
 use Rattle.working_out.specs.declared.rows.HopRow.{HopRow}
 use Rattle.working_out.specs.Keys.{number_before, port_key, Ports}

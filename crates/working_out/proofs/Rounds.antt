@@ -3,7 +3,7 @@ use Rattle.std.proofs.Common.{◌≡◌, ℕ, ◌≤◌, Bool, true, false, List
 use Rattle.definitions.specs.declared.loads.Load.{Load}
 use Rattle.definitions.specs.Lists.{In}
 use Rattle.definitions.specs.Network.{Records}
-use Rattle.register.specs.Tables.{rows}
+use Rattle.register.specs.Registers.{rows, viewed}
 use Rattle.working_out.specs.declared.rows.Progress.TheVariants.{Open}
 use Rattle.working_out.specs.declared.rows.PortRow.{PortRow}
 use Rattle.working_out.specs.declared.rows.LinkRow.{LinkRow}
@@ -71,10 +71,10 @@ unworked r worth ps ls hs held all = record {
 -- one round, over the tables
 pub round_makes : (worth : List Load → ℕ) (t u v w : Ports) (l : Links) (h k : Hops) (any : Bool)
     → EditsAll number_before port_key opened t u → Advance u l h v k 0 (length (rows h)) → length (rows k) ≡ length (rows h)
-    → ((r : Records) → Setting r worth → Known r worth (rows v) (rows l) (rows k) (length (rows k)) → SettlesFirst r worth (rows l) (rows k) (length (rows v)) (rows v) (rows w) any)
-    → (r : Records) → Setting r worth → Worked r worth (rows t) (rows l) (rows h) → RoundMakes r worth (rows l) (rows t) (rows h) (rows w) (rows k) any
+    → ((r : Records) → Setting r worth → Known r worth (rows v) (viewed l) (rows k) (length (rows k)) → SettlesFirst r worth (viewed l) (rows k) (length (rows v)) (rows v) (rows w) any)
+    → (r : Records) → Setting r worth → Worked r worth (rows t) (viewed l) (rows h) → RoundMakes r worth (viewed l) (rows t) (rows h) (rows w) (rows k) any
 round_makes worth t u v w l h k any edited passed count settled r s old =
-    let start = subst (λ (ps : List PortRow). Advancing r worth ps (rows l) (rows h) 0 (untried (rows t))) (sym (edited.edited (λ x. refl))) (begins r worth (rows t) (rows l) (rows h) old) in
-    let mid : Advancing r worth (rows v) (rows l) (rows k) (length (rows k)) (untried (rows t))
-    = subst (λ (n : ℕ). Advancing r worth (rows v) (rows l) (rows k) n (untried (rows t))) (sym count) (passed r worth (untried (rows t)) s start) in
-    ends r worth (rows t) (rows v) (rows w) (rows l) (rows h) (rows k) any mid (settled r s mid.known)
+    let start = subst (λ (ps : List PortRow). Advancing r worth ps (viewed l) (rows h) 0 (untried (rows t))) (sym (edited.edited (λ x. refl))) (begins r worth (rows t) (viewed l) (rows h) old) in
+    let mid : Advancing r worth (rows v) (viewed l) (rows k) (length (rows k)) (untried (rows t))
+    = subst (λ (n : ℕ). Advancing r worth (rows v) (viewed l) (rows k) n (untried (rows t))) (sym count) (passed r worth (untried (rows t)) s start) in
+    ends r worth (rows t) (rows v) (rows w) (viewed l) (rows h) (rows k) any mid (settled r s mid.known)

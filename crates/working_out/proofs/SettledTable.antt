@@ -6,7 +6,7 @@ use Rattle.std.proofs.lemmas.Option.{slice_get_within, slice_get-get_or}
 use Rattle.definitions.specs.declared.loads.Load.{Load}
 use Rattle.definitions.specs.Lists.{In}
 use Rattle.definitions.specs.Network.{Records}
-use Rattle.register.specs.Tables.{rows, Replacing}
+use Rattle.register.specs.Registers.{rows, viewed, Replacing}
 use Rattle.working_out.specs.declared.rows.Progress.TheVariants.{Open}
 use Rattle.working_out.specs.declared.rows.PortRow.{PortRow}
 use Rattle.working_out.specs.declared.rows.LinkRow.{LinkRow}
@@ -20,17 +20,17 @@ use Rattle.working_out.proofs.SettledRow.{known_on, one_less, not_open}
 
 -- an open port was tried
 pub tried_table : (worth : List Load → ℕ) (p q : Ports) (l : Links) (hs : List HopRow) (i : ℕ) (x : PortRow) → Some x ≡ slice_get (rows p) i → x.progress ≡ Open
-    → (gs : List Load) → (gs ≡ loads_at (rows l) x.port hs) → (o : Option (ℕ × ℕ)) → Figured worth hs x.port.number gs o
+    → (gs : List Load) → (gs ≡ loads_at (viewed l) x.port hs) → (o : Option (ℕ × ℕ)) → Figured worth hs x.port.number gs o
     → (new : PortRow) → new ≡ settled_row x o → (b : Bool) → Replacing number_before port_key i new p q b
-    → (r : Records) → Setting r worth → Known r worth (rows p) (rows l) hs (length hs) → Settles r worth (rows l) hs i (rows p) (rows q) true
+    → (r : Records) → Setting r worth → Known r worth (rows p) (viewed l) hs (length hs) → Settles r worth (viewed l) hs i (rows p) (rows q) true
 tried_table worth p q l hs i x at is_open gs gathered o told new e b replaced r s a =
     let now-is : rows q ≡ set (rows p) i (settled_row x o) = same_key number_before port_key (λ (z : PortRow). settled_row z o) (λ z. grind arith) p q i x new b at e replaced in (
       settled_row x o,
       slice_get_within (rows p) i x (sym at),
       now-is,
-      not_open r worth s (rows p) (rows l) hs a i x at is_open gs gathered o told o,
-      subst (λ (ps : List PortRow). Known r worth ps (rows l) hs (length hs)) (sym now-is) (known_on r worth s (rows p) (rows l) hs a i x at is_open gs gathered o told),
-      ap (λ (ps : List PortRow). untried ps + 1) now-is ∙ one_less r worth s (rows p) (rows l) hs a i x at is_open gs gathered o told,
+      not_open r worth s (rows p) (viewed l) hs a i x at is_open gs gathered o told o,
+      subst (λ (ps : List PortRow). Known r worth ps (viewed l) hs (length hs)) (sym now-is) (known_on r worth s (rows p) (viewed l) hs a i x at is_open gs gathered o told),
+      ap (λ (ps : List PortRow). untried ps + 1) now-is ∙ one_less r worth s (rows p) (viewed l) hs a i x at is_open gs gathered o told,
     )
 
 -- one place more was passed

@@ -5,11 +5,12 @@ use Rattle.std.proofs.lemmas.Bool.{le-ltb}
 use Rattle.definitions.specs.Lists.{In, every, ascending}
 use Rattle.theory.proofs.Lookups.{one_of_key}
 use Rattle.definitions.specs.Network.{Records, WellFormed, port_before, link_before, hop_before}
-use Rattle.register.specs.Tables.{by_key}
+use Rattle.register.specs.Registers.{by_key}
 use Rattle.working_out.specs.declared.rows.PortRow.{PortRow}
 use Rattle.working_out.specs.declared.rows.LinkRow.{LinkRow}
 use Rattle.working_out.specs.declared.rows.HopRow.{HopRow}
 use Rattle.working_out.specs.Keys.{number_before, place_before, port_key, link_key, hop_key}
+use Rattle.working_out.specs.Rows.{net}
 use Rattle.working_out.specs.Settling.{Holds}
 
 -- the order of hops' keys is that of the records
@@ -42,3 +43,14 @@ one_row ps up x y i j e = one_of_key (by_key number_before port_key) ps up x y i
 pub ports_ordered : (r : Records) → WellFormed r → (ps : List PortRow) (ls : List LinkRow) (hs : List HopRow) → Holds r ps ls hs
     → ascending (by_key number_before port_key) ps ≡ true
 ports_ordered r wf ps ls hs h = ports_ascend ps ∙ ap (ascending port_before) h.ports ∙ wf.ports_ascend
+
+-- rows that hold a well-formed network are in order
+module _ (ps : List PortRow) (ls : List LinkRow) (hs : List HopRow) (wf : WellFormed (net ps ls hs)) where
+  pub ports_in_order : ascending (by_key number_before port_key) ps ≡ true
+  ports_in_order = ports_ascend ps ∙ wf.ports_ascend
+
+  pub links_in_order : ascending (by_key number_before link_key) ls ≡ true
+  links_in_order = links_ascend ls ∙ wf.links_ascend
+
+  pub hops_in_order : ascending (by_key place_before hop_key) hs ≡ true
+  hops_in_order = rows_ascend (λ (x : HopRow). x.hop) place_before hop_key hop_before keys_agree hs ∙ wf.hops_ascend

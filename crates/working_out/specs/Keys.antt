@@ -3,11 +3,12 @@
 --   number_before        the order of numbers
 --   place_before         the order of hops' keys: by link and then port
 --   port_key, link_key, hop_key   the key of a row
---   Ports, Links, Hops   the tables of rows, in order by their keys
+--   Ports, Hops          the registers of rows, in order by their keys
+--   Links                the views of links, in order likewise
 
 use Rattle.std.specs.Prelude.{ℕ, Bool, nat_lt}
 use Rattle.register.specs.Orders.{pair_before}
-use Rattle.register.specs.Tables.{TableBy}
+use Rattle.register.specs.Registers.{RegisterBy, ViewBy}
 use Rattle.working_out.specs.declared.rows.PortRow.{PortRow}
 use Rattle.working_out.specs.declared.rows.LinkRow.{LinkRow}
 use Rattle.working_out.specs.declared.rows.HopRow.{HopRow}
@@ -28,10 +29,10 @@ abbrev pub hop_key : HopRow → ℕ × ℕ
 hop_key r = (r.hop.link, r.hop.port)
 
 abbrev pub Ports : Type 0
-Ports = TableBy number_before port_key
+Ports = RegisterBy number_before port_key
 
 abbrev pub Links : Type 0
-Links = TableBy number_before link_key
+Links = ViewBy number_before link_key
 
 abbrev pub Hops : Type 0
-Hops = TableBy place_before hop_key
+Hops = RegisterBy place_before hop_key

@@ -24,7 +24,7 @@ use Rattle.std.specs.List.{AllByRecursion}
 use Rattle.definitions.specs.Lists.{In, total}
 use Rattle.definitions.specs.Network.{Records, WellFormed, Feeds, InRing}
 use Rattle.definitions.specs.WorkingOut.{NoPort, Lowest}
-use Rattle.register.specs.Tables.{rows, room}
+use Rattle.register.specs.Registers.{rows, room}
 use Rattle.working_out.specs.declared.rows.PortRow.{PortRow}
 use Rattle.working_out.specs.declared.rows.HopRow.{HopRow}
 use Rattle.working_out.specs.Keys.{number_before, port_key, Ports}

@@ -32,7 +32,7 @@ use Rattle.working_out.specs.declared.rows.PortRow.{PortRow}
 use Rattle.working_out.specs.declared.rows.LinkRow.{LinkRow}
 use Rattle.working_out.specs.declared.rows.HopRow.{HopRow}
 use Rattle.definitions.specs.WorkingOut.{NoPort}
-use Rattle.register.specs.Tables.{rows}
+use Rattle.register.specs.Registers.{rows, viewed}
 use Rattle.working_out.specs.Keys.{Ports, Links, Hops}
 use Rattle.working_out.specs.Gathering.{link_under}
 use Rattle.working_out.specs.Marks.{marked}
@@ -171,7 +171,7 @@ pub record Advancing (r : Records) (worth : List Load → ℕ) (ps : List PortRo
 abbrev pub Advance : Ports → Links → Hops → Ports → Hops → ℕ → ℕ → Type 0
 Advance p l h q k i j =
     (r : Records) (worth : List Load → ℕ) (n : ℕ) → Setting r worth
-    → Advancing r worth (rows p) (rows l) (rows h) i n → Advancing r worth (rows q) (rows l) (rows k) j n
+    → Advancing r worth (rows p) (viewed l) (rows h) i n → Advancing r worth (rows q) (viewed l) (rows k) j n
 
 -- ## Rounds
 

@@ -1,13 +1,14 @@
 // Arrivals at hops, from the rows of the ports and hops before them.
 ghost use Rattle.std.specs.Prelude.{◌≡◌, ◌+◌, ◌<◌, length};
-ghost use Rattle.register.specs.Tables.{rows, room};
+ghost use Rattle.register.specs.Registers.{rows, viewed, room};
 ghost use Rattle.working_out.specs.Settling.{Arrives, Advance};
 
 use crate::edits::edit_under;
 use crate::gathering::{byte_time, link_under};
 use crate::rows::{HopRow, LinkRow, PortRow, Progress};
 use definitions::network::Hop;
-use register::tables::Table;
+use register::registers::Register;
+use register::views::View;
 
 // What a switch takes between the end of a frame at one port and its arrival at the next, in ns.
 const LATENCY: u64 = 16_000;
@@ -15,12 +16,12 @@ const LATENCY: u64 = 16_000;
 // The earliest and the latest arrival at a hop, in ns after the release; none where the port before it is not
 // worked out.
 fn arrival(
-    ports: &Table<PortRow>,
-    links: &Table<LinkRow>,
-    hops: &Table<HopRow>,
+    ports: &Register<PortRow>,
+    links: &View<LinkRow>,
+    hops: &Register<HopRow>,
     hop: Hop,
 ) -> Option<(u64, u64)>
-    ensures { Arrives (rows ports.now) (rows links.now) (rows hops.now) hop result }
+    ensures { Arrives (rows ports.now) (viewed links.now) (rows hops.now) hop result }
 {
     let Some(before) = hop.after else {
         return Some((0, 0));
@@ -39,7 +40,12 @@ fn arrival(
 }
 
 // Passes the hop at a place: writes its arrivals, or has its port wait where the port before is not worked out.
-fn pass(ports: &mut Table<PortRow>, links: &Table<LinkRow>, hops: &mut Table<HopRow>, place: usize)
+fn pass(
+    ports: &mut Register<PortRow>,
+    links: &View<LinkRow>,
+    hops: &mut Register<HopRow>,
+    place: usize,
+)
     ensures ports_room { room ports.new ≡ room ports.old }
     ensures hops_room { room hops.new ≡ room hops.old }
     ensures same_count { length (rows hops.new) ≡ length (rows hops.old) }
@@ -66,7 +72,11 @@ fn pass(ports: &mut Table<PortRow>, links: &Table<LinkRow>, hops: &mut Table<Hop
 
 // Passes every hop: writes the arrivals at all hops whose ports before are worked out, and has the ports of the
 // others wait.
-pub(crate) fn advance(ports: &mut Table<PortRow>, links: &Table<LinkRow>, hops: &mut Table<HopRow>)
+pub(crate) fn advance(
+    ports: &mut Register<PortRow>,
+    links: &View<LinkRow>,
+    hops: &mut Register<HopRow>,
+)
     ensures ports_room { room ports.new ≡ room ports.old }
     ensures hops_room { room hops.new ≡ room hops.old }
     ensures same_count { length (rows hops.new) ≡ length (rows hops.old) }

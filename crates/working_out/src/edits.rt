@@ -1,13 +1,14 @@
 // Changes of rows that leave their keys as they are. A row is read at its place and replaced, so that its key is compared: a
-// table hands out no row that could be changed in place, since its keys ascend.
+// register hands out no row that could be changed in place, since its keys ascend.
 ghost use Rattle.std.specs.Prelude.{◌≡◌};
-ghost use Rattle.working_out.specs.Edits.{EditsAll, EditsUnder};
+ghost use Rattle.working_out.specs.Edits.{EditsAll, EditsRows, EditsUnder};
 
 use register::keys::Keyed;
+use register::registers::Register;
 use register::tables::Table;
 
 // Changes every row.
-pub(crate) fn edit_all<R: Keyed, F: Fn(R) -> R>(table: &mut Table<R>, edit: F)
+pub(crate) fn edit_all<R: Keyed, F: Fn(R) -> R>(table: &mut Register<R>, edit: F)
     requires { F.IsAlwaysCallable edit }
     ensures { (edited : R → R) → ((x y : R) → F.post edit x y → y ≡ edited x) → EditsAll R.K.Key.before R.Keyed.key edited table.old table.new }
 {
@@ -19,9 +20,19 @@ pub(crate) fn edit_all<R: Keyed, F: Fn(R) -> R>(table: &mut Table<R>, edit: F)
     }
 }
 
+// Changes every row of a table, whatever the order of its keys.
+pub(crate) fn edit_rows<R: Keyed, F: Fn(R) -> R>(table: &mut Table<R>, edit: F)
+    requires { F.IsAlwaysCallable edit }
+    ensures { (edited : R → R) → ((x y : R) → F.post edit x y → y ≡ edited x) → EditsRows edited table.old table.new }
+{
+    for place in 0..table.count() {
+        table.places[place] = edit(table.places[place]);
+    }
+}
+
 // Changes the row under the key, if there is one.
 #[tactic(auto, using(crate::proofs::Edited::under_none))]
-pub(crate) fn edit_under<R: Keyed, F: Fn(R) -> R>(table: &mut Table<R>, key: R::K, edit: F)
+pub(crate) fn edit_under<R: Keyed, F: Fn(R) -> R>(table: &mut Register<R>, key: R::K, edit: F)
     requires { F.IsAlwaysCallable edit }
     ensures { (edited : R → R) → ((x y : R) → F.post edit x y → y ≡ edited x) → EditsUnder R.K.Key.before R.Keyed.key key edited table.old table.new }
 {

@@ -1,14 +1,14 @@
 // The loads of one port, gathered into a lent table.
 ghost use Rattle.std.specs.Prelude.{◌≡◌, ◌≤◌, map, length};
 ghost use Rattle.definitions.specs.Network.{byte_time};
-ghost use Rattle.register.specs.Tables.{rows};
+ghost use Rattle.register.specs.Registers.{rows, viewed};
 ghost use Rattle.working_out.specs.Gathering.{link_under, row_load, Gathers, OverloadedRow, FirstPort};
 
 use crate::rows::{HopRow, LinkRow, PortRow};
 use definitions::loads::Load;
 use definitions::network::{Port, VirtualLink};
 use methods::overload::overloaded;
-use register::tables::Table;
+use register::views::View;
 
 // How long a byte occupies the port, in ns.
 pub(crate) fn byte_time(port: &Port) -> u64
@@ -18,8 +18,8 @@ pub(crate) fn byte_time(port: &Port) -> u64
 }
 
 // The link of that number, or one of zeros where there is none.
-pub(crate) fn link_under(links: &Table<LinkRow>, number: u16) -> VirtualLink
-    ensures { result ≡ link_under (rows links.now) number }
+pub(crate) fn link_under(links: &View<LinkRow>, number: u16) -> VirtualLink
+    ensures { result ≡ link_under (viewed links.now) number }
 {
     links.get(number).unwrap_or_default().link
 }
@@ -38,13 +38,13 @@ fn load_of(port: &Port, link: VirtualLink, row: &HopRow) -> Load
 // Writes the loads of the port from the first place of `loads`, and tells how many there are. The table of loads is lent,
 // and only some hops bring a load, so that it is written by place.
 pub(crate) fn gather(
-    links: &Table<LinkRow>,
+    links: &View<LinkRow>,
     hops: &[HopRow],
     port: &Port,
     loads: &mut [Load],
 ) -> usize
     requires { length hops.now ≤ length loads.old }
-    ensures { Gathers (rows links.now) hops.now port.now loads.new result }
+    ensures { Gathers (viewed links.now) hops.now port.now loads.new result }
 {
     let mut count = 0;
     for row in hops {
@@ -61,12 +61,12 @@ pub(crate) fn gather(
 #[tactic(auto, using(crate::proofs::Gathered::first_here))]
 pub(crate) fn first_overloaded(
     ports: &[PortRow],
-    links: &Table<LinkRow>,
+    links: &View<LinkRow>,
     hops: &[HopRow],
     loads: &mut [Load],
 ) -> Option<u8>
     requires { length hops.now ≤ length loads.old }
-    ensures { FirstPort (OverloadedRow (rows links.now) hops.now) ports.now result }
+    ensures { FirstPort (OverloadedRow (viewed links.now) hops.now) ports.now result }
 {
     for row in ports {
         let count = gather(links, hops, &row.port, loads);

@@ -1,5 +1,5 @@
 use Rattle.std.proofs.Common.{◌≡◌, length, ◌∙◌, subst, arith}
-use Rattle.register.specs.Tables.{rows}
+use Rattle.register.specs.Registers.{rows}
 use Rattle.working_out.specs.Settling.{Advance}
 use Rattle.working_out.proofs.Passed.{pass_more}
 use Rattle.working_out.proofs.arrivals.advance.Goals as goal

@@ -1,5 +1,5 @@
 use Rattle.std.proofs.Common.{◌≡◌, length}
-use Rattle.register.specs.Tables.{rows, room}
+use Rattle.register.specs.Registers.{rows, room}
 use Rattle.working_out.specs.Settling.{Advance}
 use Rattle.working_out.proofs.arrivals.advance.Given as goal
 

@@ -1,5 +1,5 @@
 use Rattle.std.proofs.Common.{◌≡◌, length}
-use Rattle.register.specs.Tables.{rows}
+use Rattle.register.specs.Registers.{rows}
 use Rattle.working_out.proofs.Edited.{Changed}
 use Rattle.working_out.proofs.edits.edit_all.Given as goal
 

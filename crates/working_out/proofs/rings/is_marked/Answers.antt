@@ -1,5 +1,5 @@
 use Rattle.std.proofs.Common.{rules}
-use Rattle.register.specs.Tables.{rows}
+use Rattle.register.specs.Registers.{rows}
 use Rattle.working_out.proofs.RingMarks.{marked_by}
 use Rattle.working_out.proofs.rings.is_marked.Goals as goal
 

@@ -1,5 +1,5 @@
 use Rattle.std.proofs.Common.{true, refl, rules, tests}
-use Rattle.register.specs.Tables.{rows}
+use Rattle.register.specs.Registers.{rows}
 use Rattle.working_out.specs.Rings.{marked}
 use Rattle.working_out.proofs.RingMarks.{unmarked_by}
 use Rattle.working_out.proofs.rings.mark_port.Goals as goal

@@ -1,4 +1,4 @@
-use Rattle.register.specs.Tables.{rows}
+use Rattle.register.specs.Registers.{rows}
 use Rattle.working_out.proofs.Judging.{none_waits}
 use Rattle.working_out.proofs.working.ring_of.Goals as goal
 

@@ -1,9 +1,8 @@
-use Rattle.std.proofs.Common.{rules}
+use Rattle.std.proofs.Common.{refl, rules}
 use Rattle.std.proofs.lemmas.Fn.{always_returns_same}
 use Rattle.register.specs.Orders.{compare}
-use Rattle.register.specs.Tables.{rows}
 use Rattle.register.proofs.Searching.{searched}
-use Rattle.register.proofs.tables.Table.find.Goals as goal
+use Rattle.register.proofs.searches.find_in.Goals as goal
 
 pub returns-clause-found : goal.returns-clause-found
 returns-clause-found g c =
@@ -11,8 +10,7 @@ returns-clause-found g c =
     let key = g.R.Keyed.key in
     let one = g.met.R.K.Key.trichotomy in
     let carries = g.met.R.K.Key.transitive in
-    let rs = rows c.args.self.now in
-    let up = c.args.self.now.ascends in
+    let rs = c.args.records.now in
     let place = c.binary_search_by.ensures.position (λ y. compare lt (key y) c.args.key)
     (always_returns_same _ _ _ (λ a r f' called. (search rules, search rules))) in
-    searched lt key one carries rs up c.args.key c.all.result.now c.all.ensures c.binary_search_by.result c.binary_search_by.ensures.bound place
+    λ up. searched lt key one carries rs up c.args.key rs refl c.binary_search_by.result c.binary_search_by.ensures.bound place
