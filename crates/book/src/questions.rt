@@ -111,10 +111,12 @@ impl<'a> Book<'a> {
     fn may_ask_of(&self, link: u16) -> Result<(), Refusal>
         ensures { result ≡ refused_by (link_ground self.now link) }
     {
-        match (self.standing, self.has_link(link)) {
-            (false, _) => Err(Refusal::NoFigures),
-            (true, false) => Err(Refusal::LinkUnknown),
-            (true, true) => Ok(()),
+        if !self.standing {
+            Err(Refusal::NoFigures)
+        } else if !self.has_link(link) {
+            Err(Refusal::LinkUnknown)
+        } else {
+            Ok(())
         }
     }
 }
