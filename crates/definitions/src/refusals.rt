@@ -44,7 +44,7 @@ pub enum Refusal {
     PortOverloaded { port: u8 },
     PortInRing { port: u8 },
     FigurePastLimit { port: u8 },
-    // questions
+    // questions; the first also of a working-out over tables out of order
     NoFigures,
     NoHopThere,
     NoHops,

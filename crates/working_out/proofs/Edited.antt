@@ -1,4 +1,4 @@
--- Changing the rows of a table, place by place, under their keys.
+-- Changing the rows of a register, place by place, under their keys, and the rows of a table.
 use Rattle.std.proofs.Common.{◌≡◌, ℕ, zero, suc, ◌+◌, ◌<◌, ◌≤◌, Bool, true, List, [], ◌∷◌, ◌++◌, map, length, length-take, get_or, take, drop, set, Some, Ok, Err, sym, refl, ap, ◌∙◌, inl, inr, arith}
 use Rattle.std.specs.List.{slice_get}
 use Rattle.std.proofs.lemmas.List.Edits.{map_over_more}

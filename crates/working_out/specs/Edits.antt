@@ -1,4 +1,4 @@
--- Edits: changes of rows that leave their keys as they are.
+-- Edits: changes of rows.
 --
 --   KeepsKey key f           f leaves the key of every row as it is
 --   EditsAll                 every row of the register is changed, and nothing else

@@ -1,5 +1,5 @@
-// Changes of rows that leave their keys as they are. A row is read at its place and replaced, so that its key is compared: a
-// register hands out no row that could be changed in place, since its keys ascend.
+// Changes of rows. A row of a register is read at its place and replaced, so that its key is compared: a register hands out no
+// row that could be changed in place, since its keys ascend. A table, which may be out of order, is written place by place.
 ghost use Rattle.std.specs.Prelude.{◌≡◌};
 ghost use Rattle.working_out.specs.Edits.{EditsAll, EditsRows, EditsUnder};
 
@@ -7,7 +7,7 @@ use register::keys::Keyed;
 use register::registers::Register;
 use register::tables::Table;
 
-// Changes every row.
+// Changes every row of a register.
 pub(crate) fn edit_all<R: Keyed, F: Fn(R) -> R>(table: &mut Register<R>, edit: F)
     requires { F.IsAlwaysCallable edit }
     ensures { (edited : R → R) → ((x y : R) → F.post edit x y → y ≡ edited x) → EditsAll R.K.Key.before R.Keyed.key edited table.old table.new }
@@ -20,7 +20,8 @@ pub(crate) fn edit_all<R: Keyed, F: Fn(R) -> R>(table: &mut Register<R>, edit: F
     }
 }
 
-// Changes every row of a table, whatever the order of its keys.
+// Changes every row of a table, whatever the order of its keys. By place, since through the open field a proof follows the place
+// that is written, but no part and no iterator.
 pub(crate) fn edit_rows<R: Keyed, F: Fn(R) -> R>(table: &mut Table<R>, edit: F)
     requires { F.IsAlwaysCallable edit }
     ensures { (edited : R → R) → ((x y : R) → F.post edit x y → y ≡ edited x) → EditsRows edited table.old table.new }
@@ -30,7 +31,7 @@ pub(crate) fn edit_rows<R: Keyed, F: Fn(R) -> R>(table: &mut Table<R>, edit: F)
     }
 }
 
-// Changes the row under the key, if there is one.
+// Changes the row of a register under the key, if there is one.
 #[tactic(auto, using(crate::proofs::Edited::under_none))]
 pub(crate) fn edit_under<R: Keyed, F: Fn(R) -> R>(table: &mut Register<R>, key: R::K, edit: F)
     requires { F.IsAlwaysCallable edit }

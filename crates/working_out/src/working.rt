@@ -117,8 +117,8 @@ fn work_in_order<M: Method>(
     Some(worked)
 }
 
-// The same over tables, which may hold anything: where the keys of a table do not ascend, so that the tables hold no network,
-// it is refused as one without figures.
+// As `work_out_registers`, over tables, which may hold anything: where the keys of a table do not ascend, so that the tables
+// hold no network, it is refused as one without figures. Every refusal leaves all figures zero.
 pub fn work_out<M: Method>(
     ports: &mut Table<PortRow>,
     links: &Table<LinkRow>,
