@@ -164,67 +164,70 @@ fn figures_past_the_limit(rt: HostRuntime) {
     assert_eq!(rt; book.delay(1), Err(Refusal::NoFigures));
 }
 
-// The full port going on once more, over tables that are filled already; and over tables out of order.
-#[test]
-fn filled_tables_are_worked_out(rt: HostRuntime) {
-    let first = PortRow::new(Port::new(1, PortKind::End, 10));
-    let second = PortRow::new(Port::new(2, PortKind::Switch, 10));
-    let mut ports = [first, second];
-    let mut links = [LinkRow {
-        link: VirtualLink::new(1, 1, 64, 1_250),
-    }];
-    let mut hops = [
-        HopRow::new(Hop::new(1, 1, None)),
-        HopRow::new(Hop::new(1, 2, Some(1))),
-    ];
+// Forward over tables of these rows, all places in use.
+fn work_out_tables(
+    ports: &mut [PortRow],
+    links: &mut [LinkRow],
+    hops: &mut [HopRow],
+) -> Result<(), Refusal> {
     let mut loads = [Load::default(); 2];
     let mut port_table = Table {
-        places: &mut ports,
-        len: 2,
+        len: ports.len(),
+        places: ports,
     };
     let link_table = Table {
-        places: &mut links,
-        len: 1,
+        len: links.len(),
+        places: links,
     };
     let mut hop_table = Table {
-        places: &mut hops,
-        len: 2,
+        len: hops.len(),
+        places: hops,
     };
+    working::work_out(
+        &mut port_table,
+        &link_table,
+        &mut hop_table,
+        &Forward,
+        &mut loads,
+    )
+}
+
+// The rows of a full port going on.
+fn chain_rows() -> ([PortRow; 2], [LinkRow; 1], [HopRow; 2]) {
+    (
+        [
+            PortRow::new(Port::new(1, PortKind::End, 10)),
+            PortRow::new(Port::new(2, PortKind::Switch, 10)),
+        ],
+        [LinkRow {
+            link: VirtualLink::new(1, 1, 64, 1_250),
+        }],
+        [
+            HopRow::new(Hop::new(1, 1, None)),
+            HopRow::new(Hop::new(1, 2, Some(1))),
+        ],
+    )
+}
+
+#[test]
+fn filled_tables_are_worked_out(rt: HostRuntime) {
+    let (mut ports, mut links, mut hops) = chain_rows();
+    assert_eq!(rt; work_out_tables(&mut ports, &mut links, &mut hops), Ok(()));
+    assert_eq!(rt; (ports[1].backlog, ports[1].depth), (1_948_800, 3));
+    assert_eq!(rt; (hops[1].earliest, hops[1].latest), (67_200, 1_016_000));
+}
+
+#[test]
+fn tables_out_of_order_leave_no_figures(rt: HostRuntime) {
+    let (mut ports, mut links, mut hops) = chain_rows();
+    assert_eq!(rt; work_out_tables(&mut ports, &mut links, &mut hops), Ok(()));
+    let mut turned = [ports[1], ports[0]];
     assert_eq!(rt;
-        working::work_out(
-            &mut port_table,
-            &link_table,
-            &mut hop_table,
-            &Forward,
-            &mut loads
-        ),
-        Ok(())
-    );
-    let worked = port_table.at(1).unwrap_or_default();
-    assert_eq!(rt; (worked.backlog, worked.depth), (1_948_800, 3));
-    let arrived = hop_table.at(1).unwrap_or_default();
-    assert_eq!(rt; (arrived.earliest, arrived.latest), (67_200, 1_016_000));
-    // ports out of order: refused, and all figures are zero
-    let mut turned = [worked, first];
-    let mut out_of_order = Table {
-        places: &mut turned,
-        len: 2,
-    };
-    assert_eq!(rt;
-        working::work_out(
-            &mut out_of_order,
-            &link_table,
-            &mut hop_table,
-            &Forward,
-            &mut loads
-        ),
+        work_out_tables(&mut turned, &mut links, &mut hops),
         Err(Refusal::NoFigures)
     );
-    let left = out_of_order.at(0).unwrap_or_default();
-    assert_eq!(rt; (left.port.number, left.backlog, left.depth), (2, 0, 0));
-    let arrived = hop_table.at(1).unwrap_or_default();
-    assert_eq!(rt;
-        (arrived.hop.port, arrived.earliest, arrived.latest),
-        (2, 0, 0)
-    );
+    assert_eq!(rt; turned[0].port.number, 2);
+    assert_eq!(rt; (turned[0].backlog, turned[0].depth), (0, 0));
+    assert_eq!(rt; hops[1].hop.port, 2);
+    assert_eq!(rt; (hops[1].earliest, hops[1].latest), (0, 0));
 }
